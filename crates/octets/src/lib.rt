@@ -1,9 +1,15 @@
 // Big-endian numbers in bytes, and copying, clearing, comparing and combining slices of bytes.
 ghost use mathlib.Core.Path.{_≡_};
 ghost use mathlib.Core.List.{_++_};
-ghost use Prim.Native.Nat.{_+_, _^_, _≤_, _<_};
+ghost use Prim.Native.Nat.{_+_, _*_, _^_, _≤_, _<_};
 ghost use lib.ListN.{length, drop, replicate};
 ghost use Rattle.octets.specs.Octets.{number, bytes, same, xors};
+
+fn wide(b: u8) -> u64
+    ensures { λ r. ⌜ (r ≡ b) × (r < 256) ⌝ }
+{
+    b as u64
+}
 
 // The number in the first n bytes of b, which may be 0 to 8.
 pub fn read_be(b: &[u8], n: usize) -> u64
@@ -13,7 +19,7 @@ pub fn read_be(b: &[u8], n: usize) -> u64
     let mut x: u64 = 0;
     let mut i = 0;
     while i < n {
-        x = x * 256 + b[i] as u64;
+        x = x * 256 + wide(b[i]);
         i += 1;
     }
     x
@@ -33,12 +39,18 @@ pub fn write_be(out: &mut [u8], n: usize, x: u64)
     }
 }
 
+fn join(a: u8, b: u8, c: u8, d: u8) -> u32
+    ensures { λ r. ⌜ r ≡ ((a * 256 + b) * 256 + c) * 256 + d ⌝ }
+{
+    ((a as u32 * 256 + b as u32) * 256 + c as u32) * 256 + d as u32
+}
+
 // The number in the first 4 bytes of b.
 pub fn read_be32(b: &[u8]) -> u32
     requires { ⌜ 4 ≤ length (now b) ⌝ }
     ensures { λ r. ⌜ r ≡ number 4 (now (b .entry)) ⌝ }
 {
-    ((b[0] as u32 * 256 + b[1] as u32) * 256 + b[2] as u32) * 256 + b[3] as u32
+    join(b[0], b[1], b[2], b[3])
 }
 
 // The number in the first 8 bytes of b.
@@ -56,7 +68,7 @@ pub fn write_be32(out: &mut [u8], x: u32)
     requires { ⌜ 4 ≤ length (now out) ⌝ }
     ensures { λ _. ⌜ now (out .exit) ≡ bytes 4 x ++ drop 4 (now (out .entry)) ⌝ }
 {
-    out[0] = (x / 0x100_0000) as u8;
+    out[0] = (x / 0x100_0000 % 256) as u8;
     out[1] = (x / 0x1_0000 % 256) as u8;
     out[2] = (x / 0x100 % 256) as u8;
     out[3] = (x % 256) as u8;
