@@ -9,8 +9,8 @@ use native.Mathlib.Omega.{arith}
 use lib.Arith.{digits-lt, digits-div, digits-mod, mod-mul}
 use lib.Bits.{bitXor, xor-lt}
 use lib.Dec.{eqb}
-use lib.ListN.{length, getD, take, drop, replicate, length-append, length-take, length-drop, take-append-drop, List·getD-append}
-use lib.Seq.{take-suc, take-all, take-at, drop-at, drop-drop, drop-append-le, getD-take, getD-drop}
+use lib.ListN.{length, getD, take, drop, set, replicate, length-append, length-take, length-drop, take-append-drop, List·getD-append}
+use lib.Seq.{take-suc, set-split, take-all, take-at, drop-at, drop-drop, drop-append-le, getD-take, getD-drop}
 use lib.Pow.{pow-add}
 use borrow.Rule.Slice.PartMut.{putMid}
 use borrow.Author.Tests.{eq-eqb, eqb-true, ne-eqb}
@@ -184,6 +184,11 @@ pub pasted-front : (l x : List ℕ) → pasted l 0 x ≡ x ++ drop (length x) l
 unfolding pasted
 pasted-front l x = rw zero-add
 
+-- one byte stored is one byte pasted
+pub set-pasted : (l : List ℕ) (i b : ℕ) → i < length l → set l i b ≡ pasted l i (b ∷ [])
+unfolding pasted
+set-pasted l i b h = set-split l i b h ∙ ap (λ (k : ℕ). take i l ++ (b ∷ drop k l)) (sym (add-one i))
+
 -- what is written to the front of a part that is lent, from index i up to k elements, is pasted at i
 pub lent-pasted : (l p x : List ℕ) (i k : ℕ) → length x ≤ k → i + k ≤ length l → p ≡ x ++ drop (length x) (take k (drop i l)) → putMid i k l p ≡ pasted l i x
 unfolding pasted
@@ -192,6 +197,12 @@ lent-pasted l p x i k h f e =
     ∙ ap (λ (t : List ℕ). x ++ t) (sym (drop-append-le (length x) (take k (drop i l)) (drop k (drop i l)) (simp (length-take, length-drop) (omega arith)))
     ∙ ap (drop (length x)) (take-append-drop k (drop i l))
     ∙ drop-drop (length x) i l)))
+
+pub lent-bytes : (l p : List ℕ) (i n x : ℕ) → i + n ≤ length l → p ≡ bytes n x ++ drop n (take (length l - i) (drop i l))
+    → putMid i (length l - i) l p ≡ pasted l i (bytes n x)
+lent-bytes l p i n x h e =
+    let b = bytes-length n x in
+    lent-pasted l p (bytes n x) i (length l - i) (omega arith) (omega arith) (e ∙ ap (λ (k : ℕ). bytes n x ++ drop k (take (length l - i) (drop i l))) (sym b))
 
 -- ---- XOR of byte strings
 

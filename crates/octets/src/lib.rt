@@ -3,7 +3,7 @@ ghost use mathlib.Core.Path.{_≡_};
 ghost use mathlib.Core.List.{_++_};
 ghost use Prim.Native.Nat.{_+_, _*_, _^_, _≤_, _<_};
 ghost use lib.ListN.{length, drop, replicate};
-ghost use Rattle.octets.specs.Octets.{number, bytes, same, xors};
+ghost use Rattle.octets.specs.Octets.{number, bytes, pasted, same, xors};
 
 fn wide(b: u8) -> u64
     ensures { λ r. ⌜ (r ≡ b) × (r < 256) ⌝ }
@@ -43,6 +43,22 @@ fn join(a: u8, b: u8, c: u8, d: u8) -> u32
     ensures { λ r. ⌜ r ≡ ((a * 256 + b) * 256 + c) * 256 + d ⌝ }
 {
     ((a as u32 * 256 + b as u32) * 256 + c as u32) * 256 + d as u32
+}
+
+// Writes the lowest n bytes of x over out from index i on.
+pub fn write_be_at(out: &mut [u8], i: usize, n: usize, x: u64)
+    requires { ⌜ i + n ≤ length (now out) ⌝ }
+    ensures { λ _. ⌜ now (out .exit) ≡ pasted (now (out .entry)) i (bytes n x) ⌝ }
+{
+    write_be(&mut out[i..], n, x);
+}
+
+// Writes src over out from index i on.
+pub fn copy_at(out: &mut [u8], i: usize, src: &[u8])
+    requires { ⌜ i + length (now src) ≤ length (now out) ⌝ }
+    ensures { λ _. ⌜ now (out .exit) ≡ pasted (now (out .entry)) i (now (src .entry)) ⌝ }
+{
+    copy(&mut out[i..], src);
 }
 
 // The number in the first 4 bytes of b.

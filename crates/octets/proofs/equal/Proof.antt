@@ -19,10 +19,13 @@ returns c = sym (same-lengths _ _ (c .if1 .taken))
 
 loop-again : tie.Need-loop-again Inv-loop μ-loop
 loop-again c =
-    let i = c .before .before .before .loop .i in
+    let at = c .before .before .before .loop in
     let a = c .before .before .before .before .before .args .a .now in
-    let b = c .before .before .before .before .before .args .b .now in
-    (search needs, differ-next (c .before .before .before .loop .differ) i a b (omega arith) (omega arith) (c .before .before .before .loop .inv .1), differ-before (c .before .before .before .loop .differ) i a b (omega arith) (omega arith) (c .before .before .before .loop .inv .2))
+    let b = c .before .before .before .before .before .args .b .now in (
+      search needs,
+      differ-next (at .differ) (at .i) a b (omega arith) (omega arith) (at .inv .1),
+      differ-before (at .differ) (at .i) a b (omega arith) (omega arith) (at .inv .2),
+    )
 
 returns-2 : tie.Need-returns-2 Inv-loop μ-loop
 returns-2 c =

@@ -19,7 +19,13 @@ loop-holds : tie.Need-loop-holds Inv-loop μ-loop
 loop-holds c = (search needs, search needs, rest-start _ (c .args .n), bytes-start _ (c .args .n) (c .args .x))
 
 loop-again : tie.Need-loop-again Inv-loop μ-loop
-loop-again c = (search needs, search needs, rest-next _ _ _ _ (omega arith) (omega arith) (c .before .loop .inv .2), bytes-next _ _ _ _ _ _ (omega arith) (omega arith) (omega arith) (c .before .loop .inv .2) (c .before .loop .inv .3))
+loop-again c =
+    let inv = c .before .loop .inv in (
+      search needs,
+      search needs,
+      rest-next _ _ _ _ (omega arith) (omega arith) (inv .2),
+      bytes-next _ _ _ _ _ _ (omega arith) (omega arith) (omega arith) (inv .2) (inv .3),
+    )
 
 returns : tie.Need-returns Inv-loop μ-loop
 returns c = bytes-done _ _ _ _ (c .before .loop .i) (omega arith) (c .before .loop .inv .3)

@@ -1,0 +1,126 @@
+-- The steps of the writer and of the reader, over plain variables. Assumes nothing.
+use mathlib.Core.Path.{_≡_, refl, sym, _∙_, ap, ap₂}
+use mathlib.Core.List.{List, [], _∷_, _++_}
+use Prim.Native.Nat.{ℕ, _+_, _*_, _/_, _%_, _-_, _<_, _≤_}
+use native.Mathlib.Omega.{arith}
+use lib.ListN.{length, getD, take, drop, set, length-drop}
+use lib.Seq.{drop-drop}
+use borrow.Author.Tests.{le-leb, lt-leb, eq-eqb, ne-eqb}
+use Rattle.octets.specs.Octets.{number, bytes, pasted}
+use Rattle.octets.proofs.Laws.{part-rest, bytes-length, set-pasted, pasted-append, pasted-front}
+use Rattle.header.specs.Header.{size, flag, code, width, config, header, writeHeader, readBytes, readField, withCounter, readCounter, readHeader}
+use Rattle.header.specs.declared.Field.{Field}
+use Rattle.header.specs.declared.Field.the-variants.{Value, Refused}
+use Rattle.header.specs.declared.Reading.the-variants.{Header, Invalid}
+use Rattle.header.specs.declared.Written.the-variants.{Length, NoRoom}
+use Rattle.header.proofs.Laws.{field-inside, header-size}
+
+-- ---- writing
+
+-- the config byte of two fields' bits
+pub config-of : (kid ctr x y : ℕ) → x ≡ flag kid * 8 + code kid → y ≡ flag ctr * 8 + code ctr → x * 16 + y ≡ config kid ctr
+unfolding config
+config-of kid ctr x y p q = omega arith
+
+module _ (kid ctr k c : ℕ) (out : List ℕ) (kw : k ≡ width kid) (cw : c ≡ width ctr) where
+  whole : length (header kid ctr) ≡ 1 + k + c
+  whole = rw (header-size, kw, cw)
+
+  pub no-room : length out < 1 + k + c → (NoRoom ≡ writeHeader kid ctr out .answer) × (out ≡ writeHeader kid ctr out .room)
+  unfolding writeHeader
+  no-room h =
+      let t = lt-leb (length (header kid ctr)) (length out) (rw whole h) in
+      (rw t, rw t)
+
+  module _ (b : ℕ) (p q : List ℕ) (is : b ≡ config kid ctr) (first : p ≡ pasted (set out 0 b) 1 (bytes k kid)) (second : q ≡ pasted p (1 + k) (bytes c ctr)) where
+    all : 1 + k + c ≤ length out → q ≡ header kid ctr ++ drop (length (header kid ctr)) out
+    unfolding header
+    all h =
+        let nk = bytes-length k kid in
+        let nc = bytes-length c ctr in
+        let one : set out 0 b ≡ pasted out 0 (b ∷ []) = set-pasted out 0 b (omega arith) in
+        let two : p ≡ pasted out 0 (b ∷ bytes k kid) = first ∙ ap (λ (l : List ℕ). pasted l 1 (bytes k kid)) one ∙ pasted-append out 0 (b ∷ []) (bytes k kid) (omega arith) in
+        let three : q ≡ pasted out 0 (b ∷ (bytes k kid ++ bytes c ctr)) =
+        second
+        ∙ ap₂ (λ (l : List ℕ) (i : ℕ). pasted l i (bytes c ctr)) two (omega arith)
+        ∙ pasted-append out 0 (b ∷ bytes k kid) (bytes c ctr) (omega arith)
+        in
+        let four : b ∷ (bytes k kid ++ bytes c ctr) ≡ header kid ctr = rw (kw, cw, is) in
+        three ∙ pasted-front out (b ∷ (bytes k kid ++ bytes c ctr)) ∙ ap (λ (l : List ℕ). l ++ drop (length l) out) four
+
+    pub wrote : 1 + k + c ≤ length out → (Length (1 + k + c) ≡ writeHeader kid ctr out .answer) × (q ≡ writeHeader kid ctr out .room)
+    unfolding writeHeader
+    wrote h =
+        let t = le-leb (length (header kid ctr)) (length out) (rw whole h) in
+        (rw (t, whole), rw t (all h))
+
+-- ---- reading a field
+
+module _ (x k : ℕ) (l : List ℕ) where
+  pub short-form : x ≡ 0 → Value k 0 ≡ readField x k l
+  unfolding readField
+  short-form e = rw (eq-eqb x 0 e)
+
+  pub cut : (x ≡ 0 → ⊥) → length l < k + 1 → Refused ≡ readField x k l
+  unfolding readField readBytes
+  cut d h = rw (ne-eqb x 0 d, lt-leb (k + 1) (length l) h)
+
+  pub too-small : (v : ℕ) → (x ≡ 0 → ⊥) → k + 1 ≤ length l → v ≡ number (k + 1) l → v < 8 → Refused ≡ readField x k l
+  unfolding readField readBytes
+  too-small v d h e s = rw (ne-eqb x 0 d, le-leb (k + 1) (length l) h, ← e, lt-leb 8 v s)
+
+  pub too-long : (v n : ℕ) → (x ≡ 0 → ⊥) → k + 1 ≤ length l → v ≡ number (k + 1) l → 8 ≤ v → n ≡ size v → (n ≡ k + 1 → ⊥) → Refused ≡ readField x k l
+  unfolding readField readBytes
+  too-long v n d h e s q w = rw (ne-eqb x 0 d, le-leb (k + 1) (length l) h, ← e, le-leb 8 v s, ← q, ne-eqb n (k + 1) w)
+
+  pub shortest : (v n : ℕ) → (x ≡ 0 → ⊥) → k + 1 ≤ length l → v ≡ number (k + 1) l → 8 ≤ v → n ≡ size v → n ≡ k + 1 → Value v (k + 1) ≡ readField x k l
+  unfolding readField readBytes
+  shortest v n d h e s q w = rw (ne-eqb x 0 d, le-leb (k + 1) (length l) h, ← e, le-leb 8 v s, ← q, eq-eqb n (k + 1) w)
+
+-- ---- reading the header
+
+pub nothing : (l : List ℕ) → length l ≡ 0 → Invalid ≡ readHeader l
+unfolding readHeader
+nothing [] e = refl
+nothing (b ∷ l) e = absurd (omega arith)
+
+-- the KID's field is read behind the first byte
+opened : (l : List ℕ) (f : Field) → (length l ≡ 0 → ⊥) → f ≡ readField (getD l 0 0 / 128) (getD l 0 0 / 16 % 8) (take (length l - 1) (drop 1 l))
+    → readHeader l ≡ readCounter (getD l 0 0) (drop 1 l) f
+unfolding readHeader
+opened [] f d e = absurd (d refl)
+opened (b ∷ l) f d e = ap (readCounter b l) (ap (readField (b / 128) (b / 16 % 8)) (sym (part-rest 1 (b ∷ l))) ∙ sym e)
+
+module _ (l : List ℕ) (f : Field) (some : length l ≡ 0 → ⊥) (first : f ≡ readField (getD l 0 0 / 128) (getD l 0 0 / 16 % 8) (take (length l - 1) (drop 1 l))) where
+  pub no-kid : f ≡ Refused → Invalid ≡ readHeader l
+  unfolding readCounter
+  no-kid e = sym (opened l f some first ∙ ap (readCounter (getD l 0 0) (drop 1 l)) e)
+
+  module _ (kid a : ℕ) (is : f ≡ Value kid a) where
+    pub kid-inside : 1 + a ≤ length l
+    kid-inside =
+        let h = field-inside _ _ kid a _ (sym first ∙ is) in
+        omega (arith, simp (part-rest, length-drop) at h)
+
+    module _ (g : Field) (second : g ≡ readField (getD l 0 0 / 8 % 2) (getD l 0 0 % 8) (take (length l - (1 + a)) (drop (1 + a) l))) where
+      after : readHeader l ≡ withCounter kid a g
+      unfolding readCounter
+      after =
+          opened l f some first
+          ∙ ap (readCounter (getD l 0 0) (drop 1 l)) is
+          ∙ ap (λ (t : List ℕ). withCounter kid a (readField (getD l 0 0 / 8 % 2) (getD l 0 0 % 8) t)) (drop-drop a 1 l ∙ sym (part-rest (1 + a) l))
+          ∙ ap (withCounter kid a) (sym second)
+
+      pub no-counter : g ≡ Refused → Invalid ≡ readHeader l
+      unfolding withCounter
+      no-counter e = sym (after ∙ ap (withCounter kid a) e)
+
+      pub both-read : (ctr c : ℕ) → g ≡ Value ctr c → Header (record { 0 = kid }) (record { 0 = ctr }) (1 + a + c) ≡ readHeader l
+      unfolding withCounter
+      both-read ctr c e = sym (after ∙ ap (withCounter kid a) e)
+
+      pub counter-inside : (ctr c : ℕ) → g ≡ Value ctr c → 1 + a + c ≤ length l
+      counter-inside ctr c e =
+          let h = field-inside _ _ ctr c _ (sym second ∙ e) in
+          let i = kid-inside in
+          omega (arith, simp (part-rest, length-drop) at h)

@@ -1,0 +1,84 @@
+-- The SFrame header, RFC 9605 section 4.3. A Key ID (KID) and a counter (CTR) are numbers of 64 bits.
+-- Assumes nothing.
+use mathlib.Core.Bool.{Bool, true, false}
+use mathlib.Core.List.{List, [], _∷_, _++_}
+use Prim.Native.Nat.{ℕ, _+_, _*_, _-_, _/_, _%_}
+use lib.Count.{leadingZeros}
+use lib.Dec.{leb, ltb, eqb}
+use lib.ListN.{length, drop}
+use Rattle.octets.specs.Octets.{number, bytes, both}
+use Rattle.header.specs.declared.Field.{Field}
+use Rattle.header.specs.declared.Field.the-variants.{Value, Refused}
+use Rattle.header.specs.declared.Reading.{Reading}
+use Rattle.header.specs.declared.Reading.the-variants.{Header, Invalid}
+use Rattle.header.specs.declared.Written.{Written}
+use Rattle.header.specs.declared.Written.the-variants.{Length, NoRoom}
+
+abbrev pub pick : {A : Type 0} → Bool → A → A → A
+pick true a b = a
+pick false a b = b
+
+-- ---- writing
+
+-- The minimum number of bytes that a number above 0 takes.
+unfoldable pub size : ℕ → ℕ
+size v = 8 - leadingZeros 64 v / 8
+
+-- The flag X or Y: 0 where the value is 0 to 7 and stands in the config byte itself, else 1.
+unfoldable pub flag : ℕ → ℕ
+flag v = pick (ltb v 8) 0 1
+
+-- The three bits K or C: the value itself, or the number of its bytes less one.
+unfoldable pub code : ℕ → ℕ
+code v = pick (ltb v 8) v (size v - 1)
+
+-- How many bytes of the value stand after the config byte.
+unfoldable pub width : ℕ → ℕ
+width v = pick (ltb v 8) 0 (size v)
+
+-- The config byte, from its top bit: X, K, Y, C.
+unfoldable pub config : ℕ → ℕ → ℕ
+config kid ctr = flag kid * 128 + code kid * 16 + flag ctr * 8 + code ctr
+
+-- The header: the config byte, then the bytes of the KID, then those of the CTR.
+unfoldable pub header : ℕ → ℕ → List ℕ
+header kid ctr = config kid ctr ∷ (bytes (width kid) kid ++ bytes (width ctr) ctr)
+
+-- What writing a header answers, and what the room holds afterwards. Cause 12: the room is too short.
+pub record Writing : Type 0 where
+  pub answer : Written
+  pub room : List ℕ
+
+unfoldable pub writeHeader : ℕ → ℕ → List ℕ → Writing
+writeHeader kid ctr out =
+    let h = header kid ctr in
+    pick (leb (length h) (length out))
+    (record { answer = Length (length h); room = h ++ drop (length h) out })
+    (record { answer = NoRoom; room = out })
+
+-- ---- reading
+
+-- A field's value in n bytes, where n is the least number that holds it and three bits would not.
+unfoldable pub readBytes : ℕ → List ℕ → Field
+readBytes n l =
+    let v = number n l in
+    pick (leb n (length l)) (pick (both (leb 8 v) (eqb (size v) n)) (Value v n) Refused) Refused
+
+-- A field with flag x and three bits k: k itself, or the next k + 1 bytes.
+unfoldable pub readField : ℕ → ℕ → List ℕ → Field
+readField x k l = pick (eqb x 0) (Value k 0) (readBytes (k + 1) l)
+
+-- The header of a KID that took a bytes and of the CTR that was read after it.
+unfoldable pub withCounter : ℕ → ℕ → Field → Reading
+withCounter kid a Refused = Invalid
+withCounter kid a (Value ctr c) = Header (record { 0 = kid }) (record { 0 = ctr }) (1 + a + c)
+
+-- The CTR of the config byte b, after the KID that was read at the front of l.
+unfoldable pub readCounter : ℕ → List ℕ → Field → Reading
+readCounter b l Refused = Invalid
+readCounter b l (Value kid a) = withCounter kid a (readField (b / 8 % 2) (b % 8) (drop a l))
+
+-- The header at the front of l. Cause 10: it is cut short, or not in its shortest form.
+unfoldable pub readHeader : List ℕ → Reading
+readHeader [] = Invalid
+readHeader (b ∷ l) = readCounter b l (readField (b / 128) (b / 16 % 8) l)

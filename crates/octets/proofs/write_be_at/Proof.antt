@@ -1,0 +1,20 @@
+use borrow.Author.Needs.{needs}
+use Rattle.octets.proofs.Laws.{lent-bytes}
+use Rattle.octets.proofs.write_be_at.Statement.{statement}
+use Rattle.octets.proofs.write_be_at.Tie as tie
+
+returns : tie.Need-returns
+returns c =
+    let a = c .before .before .before .before .before .args in
+    lent-bytes (a .out .now) _ (a .i) (a .n) (a .x) (c .before .before .before .before .before .pre) (c .before .before .write-be .ensures)
+
+pub write-be-at-spec : {M : Type 1} → statement M
+write-be-at-spec =
+    tie.close
+    (tie.spec
+    (λ c. search needs)
+    (λ c. search needs)
+    (λ c. search needs)
+    (λ c κs. search needs)
+    (λ c. search needs)
+    returns)
