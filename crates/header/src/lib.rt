@@ -3,6 +3,9 @@ ghost use mathlib.Core.Path.{_≡_};
 ghost use Prim.Native.Nat.{_+_, _*_, _≤_, _<_};
 ghost use Rattle.header.specs.Header.{size, flag, code, width, readField, readHeader, writeHeader};
 
+// A value below this stands in the three bits of its field in the config byte.
+const SMALL: u64 = 8;
+
 // A Key ID.
 pub struct Kid(pub u64);
 
@@ -38,7 +41,7 @@ fn size_of(v: u64) -> usize
 fn width_of(v: u64) -> usize
     ensures { λ r. ⌜ (r ≡ width v) × (r ≤ 8) ⌝ }
 {
-    if v < 8 { 0 } else { size_of(v) }
+    if v < SMALL { 0 } else { size_of(v) }
 }
 
 // The flag and the three bits of a field whose value v has n bytes after the config byte.
@@ -46,7 +49,7 @@ fn bits_of(v: u64, n: usize) -> u8
     requires { ⌜ (n ≡ width v) × (n ≤ 8) ⌝ }
     ensures { λ r. ⌜ (r ≡ flag v * 8 + code v) × (r < 16) ⌝ }
 {
-    if v < 8 { v as u8 } else { (7 + n) as u8 }
+    if v < SMALL { v as u8 } else { (7 + n) as u8 }
 }
 
 // Writes the header of kid and ctr to the front of out.
@@ -78,14 +81,14 @@ fn read_field(x: u8, k: u8, rest: &[u8]) -> Field
     if rest.len() < n {
         return Field::Refused;
     }
-    let v = octets::read_be(rest, n);
-    if v < 8 {
+    let value = octets::read_be(rest, n);
+    if value < SMALL {
         return Field::Refused;
     }
-    if size_of(v) != n {
+    if size_of(value) != n {
         return Field::Refused;
     }
-    Field::Value(v, n)
+    Field::Value(value, n)
 }
 
 // Reads the header at the front of bytes, whatever follows it.
