@@ -1,0 +1,136 @@
+//! Times of the primitives under the sealing layer.
+
+use bench::{measure, print_heading, print_method, print_rate, print_time, Times};
+use primitives::{Gcm, Hash};
+use reference::aes::{Aes, BLOCK};
+use reference::sha2::{Sha256, Sha512};
+use std::hint::black_box;
+use testkit::Generator;
+
+/// A frame of the usual size.
+const FRAME: usize = 1_200;
+/// The longest frame.
+const LONGEST: usize = 32_768;
+
+fn main() {
+    print_method();
+    let mut generator = Generator::new(0x6265_6e63_6800_0001);
+    hashes(&generator.bytes(LONGEST));
+    for key_length in [16, 32] {
+        let key = generator.bytes(key_length);
+        ciphers(&key, &generator.array(), &generator.bytes(FRAME));
+    }
+}
+
+fn hashes(message: &[u8]) {
+    print_heading("hashes");
+    for length in [FRAME, LONGEST] {
+        let message = &message[..length];
+        let times = hash::<Sha256>(Hash::Sha256, message);
+        print_rate(&format!("SHA-256, {length} bytes"), length, times);
+        let times = hash::<Sha512>(Hash::Sha512, message);
+        print_rate(&format!("SHA-512, {length} bytes"), length, times);
+    }
+}
+
+fn hash<H: reference::sha2::Hash>(name: Hash, message: &[u8]) -> Times {
+    let mut digest = [0; 64];
+    let cuts = [message.len(); 2];
+    measure(
+        || {
+            assert!(primitives::hash(
+                name,
+                black_box(message),
+                cuts,
+                &mut digest
+            ))
+        },
+        || {
+            black_box(H::digest(black_box(message)));
+        },
+    )
+}
+
+fn ciphers(key: &[u8], nonce: &[u8; 12], text: &[u8]) {
+    print_heading(&format!("AES-{}, key set-up included", 8 * key.len()));
+    let name = |what: &str| format!("{what}, {} bytes", text.len());
+
+    print_time("one block", block(key));
+    let blocks = text.len() / BLOCK - 1;
+    let times = counter_mode(key, nonce, &text[..BLOCK]);
+    let longer = counter_mode(key, nonce, &text[..BLOCK + BLOCK * blocks]);
+    print_time(
+        "each further block of counter mode",
+        times.step(longer, blocks),
+    );
+    print_rate(
+        &name("counter mode"),
+        text.len(),
+        counter_mode(key, nonce, text),
+    );
+    print_rate(&name("GCM tag"), text.len(), gcm_tag(key, nonce, text));
+    print_rate(&name("GCM"), text.len(), gcm_seal(key, nonce, text));
+}
+
+fn block(key: &[u8]) -> Times {
+    let input = [0; BLOCK];
+    let mut out = [0; BLOCK];
+    measure(
+        || assert!(primitives::aes(black_box(key), &input, &mut out)),
+        || {
+            black_box(Aes::new(black_box(key)).encrypt(&input));
+        },
+    )
+}
+
+fn counter_mode(key: &[u8], nonce: &[u8; 12], text: &[u8]) -> Times {
+    let mut out = vec![0; text.len()];
+    let mut data = out.clone();
+    measure(
+        || assert!(primitives::ctr(key, nonce, 0, black_box(text), &mut out)),
+        || {
+            data.copy_from_slice(black_box(text));
+            reference::ctr::apply(&Aes::new(key), nonce, 0, &mut data);
+            black_box(&data);
+        },
+    )
+}
+
+/// A header and no metadata: the associated data of most frames.
+const HEADER: [u8; 4] = [0x89, 0xc8, 0x12, 0x34];
+
+fn gcm<'a>(key: &'a [u8], nonce: &'a [u8; 12]) -> Gcm<'a> {
+    Gcm {
+        key,
+        nonce,
+        header: &HEADER,
+        metadata: &[],
+    }
+}
+
+fn gcm_tag(key: &[u8], nonce: &[u8; 12], text: &[u8]) -> Times {
+    let mut tag = [0; reference::gcm::TAG];
+    measure(
+        || assert!(gcm(key, nonce).tag(black_box(text), &mut tag)),
+        || {
+            let gcm = reference::gcm::Gcm::new(key);
+            black_box(gcm.tag(nonce, &HEADER, black_box(text)));
+        },
+    )
+}
+
+fn gcm_seal(key: &[u8], nonce: &[u8; 12], text: &[u8]) -> Times {
+    let mut out = vec![0; text.len() + reference::gcm::TAG];
+    let mut sealed = out.clone();
+    measure(
+        || assert!(gcm(key, nonce).seal(black_box(text), &mut out)),
+        || {
+            let gcm = reference::gcm::Gcm::new(key);
+            let (data, tag) = sealed.split_at_mut(text.len());
+            data.copy_from_slice(black_box(text));
+            gcm.apply(nonce, data);
+            tag.copy_from_slice(&gcm.tag(nonce, &HEADER, data));
+            black_box(&sealed);
+        },
+    )
+}

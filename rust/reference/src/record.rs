@@ -1,0 +1,141 @@
+//! One record of the store: 80 bytes.
+//!
+//! | bytes | content |
+//! |---|---|
+//! | 0 | 0 empty, 1 sending, 2 receiving, 3 retired |
+//! | 1 | suite |
+//! | 2-3 | zero |
+//! | 4-11 | KID, big-endian |
+//! | 12-19 | next counter, big-endian |
+//! | 20-31 | salt |
+//! | 32-79 | key, zero past Nk |
+
+use crate::suites::{Suite, NN};
+
+/// The length of a record.
+pub const RECORD: usize = 80;
+
+/// The longest key of a suite.
+const MAX_NK: usize = 48;
+
+/// The ceiling of a record's next counter.
+pub const MAX_COUNTER: u64 = 1 << 40;
+
+/// What a non-empty record is for.
+#[derive(Clone, Copy, Debug, PartialEq, Eq)]
+pub enum State {
+    /// Its key seals.
+    Sending = 1,
+    /// Its key opens.
+    Receiving = 2,
+    /// Its key is gone, and its KID stays taken.
+    Retired = 3,
+}
+
+/// A non-empty record.
+#[derive(Clone, Debug, PartialEq, Eq)]
+pub struct Record {
+    /// What it is for.
+    pub state: State,
+    /// The suite of its key.
+    pub suite: Suite,
+    /// Its key number.
+    pub kid: u64,
+    /// The counter of the next frame that it seals.
+    pub counter: u64,
+    /// The salt.
+    pub salt: [u8; NN],
+    /// The key, zero past Nk.
+    key: [u8; MAX_NK],
+}
+
+/// The bytes obey no rule of a record.
+#[derive(Clone, Copy, Debug, PartialEq, Eq)]
+pub struct Unsound;
+
+impl Record {
+    /// A record that has sealed nothing, with the key and the salt that the
+    /// suite derives.
+    pub fn new(state: State, suite: Suite, kid: u64, base_key: &[u8]) -> Self {
+        let (derived, salt) = suite.derive_key_salt(kid, base_key);
+        let mut key = [0; MAX_NK];
+        key[..derived.len()].copy_from_slice(&derived);
+        Record {
+            state,
+            suite,
+            kid,
+            counter: 0,
+            salt,
+            key,
+        }
+    }
+
+    /// The same record without its key.
+    pub fn retired(self) -> Self {
+        Record {
+            state: State::Retired,
+            salt: [0; NN],
+            key: [0; MAX_NK],
+            ..self
+        }
+    }
+
+    /// The key, Nk bytes.
+    pub fn key(&self) -> &[u8] {
+        &self.key[..self.suite.nk()]
+    }
+
+    /// What `RECORD` bytes hold: a record, or `None` where they are empty.
+    pub fn decode(bytes: &[u8]) -> Result<Option<Record>, Unsound> {
+        let state = match bytes[0] {
+            0 if is_zero(bytes) => return Ok(None),
+            1 => State::Sending,
+            2 => State::Receiving,
+            3 => State::Retired,
+            _ => return Err(Unsound),
+        };
+        let record = Record {
+            state,
+            suite: Suite::from_number(bytes[1].into()).ok_or(Unsound)?,
+            kid: u64::from_be_bytes(part(bytes, 4)),
+            counter: u64::from_be_bytes(part(bytes, 12)),
+            salt: part(bytes, 20),
+            key: part(bytes, 32),
+        };
+        let sound = is_zero(&bytes[2..4]) && record.is_sound();
+        sound.then_some(Some(record)).ok_or(Unsound)
+    }
+
+    fn is_sound(&self) -> bool {
+        let counter_allowed = match self.state {
+            State::Sending | State::Retired => self.counter <= MAX_COUNTER,
+            State::Receiving => self.counter == 0,
+        };
+        let key_allowed = match self.state {
+            State::Sending | State::Receiving => is_zero(&self.key[self.suite.nk()..]),
+            State::Retired => is_zero(&self.key) && is_zero(&self.salt),
+        };
+        counter_allowed && key_allowed
+    }
+
+    /// The bytes of the record.
+    pub fn encode(&self) -> [u8; RECORD] {
+        let mut bytes = [0; RECORD];
+        bytes[0] = self.state as u8;
+        bytes[1] = self.suite as u8;
+        bytes[4..12].copy_from_slice(&self.kid.to_be_bytes());
+        bytes[12..20].copy_from_slice(&self.counter.to_be_bytes());
+        bytes[20..32].copy_from_slice(&self.salt);
+        bytes[32..].copy_from_slice(&self.key);
+        bytes
+    }
+}
+
+fn is_zero(bytes: &[u8]) -> bool {
+    bytes.iter().all(|&byte| byte == 0)
+}
+
+/// The `N` bytes from `start` on.
+fn part<const N: usize>(bytes: &[u8], start: usize) -> [u8; N] {
+    bytes[start..start + N].try_into().unwrap()
+}

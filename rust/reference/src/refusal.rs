@@ -1,0 +1,43 @@
+//! Why a call refuses.
+
+/// The causes of a refusal, by number. 0 means done.
+#[derive(Clone, Copy, Debug, PartialEq, Eq)]
+pub enum Refusal {
+    /// The store is not sound.
+    StoreNotSound = 1,
+    /// The suite is not 1 to 5.
+    NoSuchSuite = 2,
+    /// The base key is not 16 to 64 bytes long.
+    BaseKeyLength = 3,
+    /// A non-empty record holds the KID.
+    KidHeld = 4,
+    /// No record is empty.
+    StoreFull = 5,
+    /// No non-empty record holds the KID.
+    KidUnknown = 6,
+    /// The record's role does not allow the call.
+    WrongRole = 7,
+    /// The next counter is the ceiling.
+    CounterSpent = 8,
+    /// The plaintext or the metadata is too long.
+    TooLong = 9,
+    /// The header is cut short or not the shortest.
+    BadHeader = 10,
+    /// Fewer bytes than a tag follow the header.
+    NoTag = 11,
+    /// The lent room is shorter than the result.
+    RoomShort = 12,
+    /// The tag differs.
+    TagDiffers = 13,
+}
+
+/// What a call answers: the length of its result, or why it refuses.
+pub type Answer = Result<usize, Refusal>;
+
+/// An answer as the number and the length that a caller in C sees.
+pub fn number_and_length(answer: Answer) -> (u32, usize) {
+    match answer {
+        Ok(length) => (0, length),
+        Err(refusal) => (refusal as u32, 0),
+    }
+}

@@ -1,0 +1,187 @@
+//! The key store in lent bytes, and the calls on it.
+//!
+//! Each call tries its causes of refusal in the order in which its comment
+//! names them. A refusal changes no lent byte.
+
+use crate::aead::Aead;
+use crate::header::{read_header, write_header};
+use crate::record::{Record, State, MAX_COUNTER, RECORD};
+use crate::refusal::{Answer, Refusal};
+use crate::suites::{nonce, Suite};
+
+/// How many records a store may have.
+pub const MAX_RECORDS: usize = 64;
+/// The longest plaintext.
+pub const MAX_PLAINTEXT: usize = 32_768;
+/// The longest metadata.
+pub const MAX_METADATA: usize = 1_024;
+/// The shortest base key.
+pub const MIN_BASE_KEY: usize = 16;
+/// The longest base key.
+pub const MAX_BASE_KEY: usize = 64;
+
+/// What a key is added for.
+#[derive(Clone, Copy, Debug, PartialEq, Eq)]
+pub enum Role {
+    /// For sealing.
+    Sending,
+    /// For opening.
+    Receiving,
+}
+
+/// Makes every record empty. Refusals: 1.
+pub fn make(store: &mut [u8]) -> Answer {
+    if !length_allowed(store) {
+        return Err(Refusal::StoreNotSound);
+    }
+    store.fill(0);
+    Ok(0)
+}
+
+/// Adds a key in the first empty record. Refusals: 1, 2, 3, 4, 5.
+pub fn add(store: &mut [u8], role: Role, suite: u64, kid: u64, base_key: &[u8]) -> Answer {
+    let records = read_store(store)?;
+    let suite = Suite::from_number(suite).ok_or(Refusal::NoSuchSuite)?;
+    if !(MIN_BASE_KEY..=MAX_BASE_KEY).contains(&base_key.len()) {
+        return Err(Refusal::BaseKeyLength);
+    }
+    if look_up(&records, kid).is_ok() {
+        return Err(Refusal::KidHeld);
+    }
+    let place = records
+        .iter()
+        .position(Option::is_none)
+        .ok_or(Refusal::StoreFull)?;
+
+    let state = match role {
+        Role::Sending => State::Sending,
+        Role::Receiving => State::Receiving,
+    };
+    let record = Record::new(state, suite, kid, base_key);
+    write_record(store, place, Some(record));
+    Ok(0)
+}
+
+/// Removes a key: a receiving one leaves its record empty, a sending one leaves
+/// it retired. Refusals: 1, 6, 7.
+pub fn remove(store: &mut [u8], kid: u64) -> Answer {
+    let records = read_store(store)?;
+    let (place, record) = look_up(&records, kid)?;
+    let left = match record.state {
+        State::Sending => Some(record.clone().retired()),
+        State::Receiving => None,
+        State::Retired => return Err(Refusal::WrongRole),
+    };
+    write_record(store, place, left);
+    Ok(0)
+}
+
+/// Seals `plaintext` at the front of `room`. Refusals: 1, 6, 7, 8, 9, 12.
+pub fn seal(
+    store: &mut [u8],
+    kid: u64,
+    metadata: &[u8],
+    plaintext: &[u8],
+    room: &mut [u8],
+) -> Answer {
+    let records = read_store(store)?;
+    let (place, record) = look_up(&records, kid)?;
+    if record.state != State::Sending {
+        return Err(Refusal::WrongRole);
+    }
+    if record.counter == MAX_COUNTER {
+        return Err(Refusal::CounterSpent);
+    }
+    check_sizes(plaintext.len(), metadata)?;
+    let header = write_header(kid, record.counter);
+    let tag_at = header.len() + plaintext.len();
+    let length = tag_at + record.suite.nt();
+    let frame = room.get_mut(..length).ok_or(Refusal::RoomShort)?;
+
+    frame[..header.len()].copy_from_slice(&header);
+    let data = &mut frame[header.len()..tag_at];
+    data.copy_from_slice(plaintext);
+    let aad = [&header, metadata].concat();
+    let aead = Aead::new(record.suite, record.key());
+    let tag = aead.encrypt(&nonce(&record.salt, record.counter), &aad, data);
+    frame[tag_at..].copy_from_slice(&tag);
+
+    let mut record = record.clone();
+    record.counter += 1;
+    write_record(store, place, Some(record));
+    Ok(length)
+}
+
+/// Opens `frame` into the front of `room`; nothing is written before the tag
+/// is verified. Refusals: 1, 10, 6, 7, 11, 9, 12, 13.
+pub fn open(store: &[u8], metadata: &[u8], frame: &[u8], room: &mut [u8]) -> Answer {
+    let records = read_store(store)?;
+    let (kid, ctr, header_length) = read_header(frame).ok_or(Refusal::BadHeader)?;
+    let (_, record) = look_up(&records, kid)?;
+    if record.state != State::Receiving {
+        return Err(Refusal::WrongRole);
+    }
+    let (header, rest) = frame.split_at(header_length);
+    let length = rest
+        .len()
+        .checked_sub(record.suite.nt())
+        .ok_or(Refusal::NoTag)?;
+    let (ciphertext, tag) = rest.split_at(length);
+    check_sizes(length, metadata)?;
+    let plaintext = room.get_mut(..length).ok_or(Refusal::RoomShort)?;
+
+    let aad = [header, metadata].concat();
+    let aead = Aead::new(record.suite, record.key());
+    let nonce = nonce(&record.salt, ctr);
+    if !aead.verify(&nonce, &aad, ciphertext, tag) {
+        return Err(Refusal::TagDiffers);
+    }
+    plaintext.copy_from_slice(ciphertext);
+    aead.apply_key_stream(&nonce, plaintext);
+    Ok(length)
+}
+
+fn length_allowed(store: &[u8]) -> bool {
+    store.len().is_multiple_of(RECORD) && (1..=MAX_RECORDS).contains(&(store.len() / RECORD))
+}
+
+/// The records of a sound store by place, `None` where one is empty.
+fn read_store(store: &[u8]) -> Result<Vec<Option<Record>>, Refusal> {
+    if !length_allowed(store) {
+        return Err(Refusal::StoreNotSound);
+    }
+    let records: Vec<Option<Record>> = store
+        .chunks_exact(RECORD)
+        .map(Record::decode)
+        .collect::<Result<_, _>>()
+        .map_err(|_| Refusal::StoreNotSound)?;
+
+    let mut kids: Vec<u64> = records.iter().flatten().map(|record| record.kid).collect();
+    kids.sort_unstable();
+    if kids.windows(2).any(|pair| pair[0] == pair[1]) {
+        return Err(Refusal::StoreNotSound);
+    }
+    Ok(records)
+}
+
+/// The non-empty record of `kid`, and its place.
+fn look_up(records: &[Option<Record>], kid: u64) -> Result<(usize, &Record), Refusal> {
+    records
+        .iter()
+        .enumerate()
+        .find_map(|(place, slot)| Some((place, slot.as_ref().filter(|r| r.kid == kid)?)))
+        .ok_or(Refusal::KidUnknown)
+}
+
+/// Writes a record, or zeros for an empty one, at its place.
+fn write_record(store: &mut [u8], place: usize, record: Option<Record>) {
+    let bytes = record.map_or([0; RECORD], |record| record.encode());
+    store[place * RECORD..][..RECORD].copy_from_slice(&bytes);
+}
+
+fn check_sizes(plaintext: usize, metadata: &[u8]) -> Result<(), Refusal> {
+    if plaintext > MAX_PLAINTEXT || metadata.len() > MAX_METADATA {
+        return Err(Refusal::TooLong);
+    }
+    Ok(())
+}

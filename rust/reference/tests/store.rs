@@ -1,0 +1,419 @@
+//! The store and its calls: every refusal, the edges, and a list of calls.
+
+use reference::record::{Record, State, MAX_COUNTER, RECORD};
+use reference::refusal::{Answer, Refusal, Refusal::*};
+use reference::store::*;
+use reference::suites::{Suite, SUITES};
+use testkit::{sframe_vectors, Generator};
+
+const BASE_KEY: [u8; 16] = [7; 16];
+
+fn made(records: usize) -> Vec<u8> {
+    let mut store = vec![0xa5; records * RECORD];
+    assert_eq!(make(&mut store), Ok(0));
+    store
+}
+
+/// A store of three records: KID 1 sending, KID 2 receiving, KID 3 retired.
+fn filled(suite: Suite) -> Vec<u8> {
+    let mut store = made(3);
+    for (role, kid) in [(Role::Sending, 1), (Role::Receiving, 2), (Role::Sending, 3)] {
+        add(&mut store, role, suite.number(), kid, &BASE_KEY).unwrap();
+    }
+    remove(&mut store, 3).unwrap();
+    store
+}
+
+/// The store of a terminal that receives KID 1 of `filled`.
+fn receiver(suite: Suite) -> Vec<u8> {
+    let mut store = made(1);
+    add(&mut store, Role::Receiving, suite.number(), 1, &BASE_KEY).unwrap();
+    store
+}
+
+/// Sets the next counter of the first record.
+fn set_counter(store: &mut [u8], counter: u64) {
+    store[12..20].copy_from_slice(&counter.to_be_bytes());
+}
+
+fn seal_to_vec(store: &mut [u8], kid: u64, metadata: &[u8], plaintext: &[u8]) -> Vec<u8> {
+    let mut room = vec![0x5a; plaintext.len() + 64];
+    let length = seal(store, kid, metadata, plaintext, &mut room).unwrap();
+    assert!(room[length..].iter().all(|&byte| byte == 0x5a));
+    room.truncate(length);
+    room
+}
+
+#[test]
+fn make_takes_1_to_64_records() {
+    for length in 0..=6_000 {
+        let mut store = vec![0xa5; length];
+        let allowed = (80..=5_120).contains(&length) && length % 80 == 0;
+        assert_eq!(make(&mut store).is_ok(), allowed);
+        let left = if allowed { 0 } else { 0xa5 };
+        assert!(store.iter().all(|&byte| byte == left));
+    }
+}
+
+#[test]
+fn published_frames() {
+    for case in sframe_vectors() {
+        let suite = case.number("cipher_suite");
+        let (kid, ctr) = (case.number("kid"), case.number("ctr"));
+        let (metadata, plaintext) = (case.bytes("metadata"), case.bytes("pt"));
+
+        let mut sender = made(1);
+        add(
+            &mut sender,
+            Role::Sending,
+            suite,
+            kid,
+            &case.bytes("base_key"),
+        )
+        .unwrap();
+        set_counter(&mut sender, ctr);
+        let frame = seal_to_vec(&mut sender, kid, &metadata, &plaintext);
+        assert_eq!(frame, case.bytes("ct"));
+
+        let mut receiver = made(1);
+        add(
+            &mut receiver,
+            Role::Receiving,
+            suite,
+            kid,
+            &case.bytes("base_key"),
+        )
+        .unwrap();
+        let mut room = vec![0; plaintext.len()];
+        assert_eq!(
+            open(&receiver, &metadata, &frame, &mut room),
+            Ok(room.len())
+        );
+        assert_eq!(room, plaintext);
+    }
+}
+
+#[test]
+fn records_as_laid_out() {
+    let store = filled(Suite::Aes128GcmSha256_128);
+    let (key, salt) = Suite::Aes128GcmSha256_128.derive_key_salt(2, &BASE_KEY);
+    let receiving = &store[RECORD..2 * RECORD];
+    assert_eq!(receiving[..4], [2, 4, 0, 0]);
+    assert_eq!(
+        receiving[4..20],
+        [0, 0, 0, 0, 0, 0, 0, 2, 0, 0, 0, 0, 0, 0, 0, 0]
+    );
+    assert_eq!(receiving[20..32], salt);
+    assert_eq!(receiving[32..48], key);
+    assert_eq!(receiving[48..], [0; 32]);
+
+    let retired = &store[2 * RECORD..];
+    assert_eq!(retired[..12], [3, 4, 0, 0, 0, 0, 0, 0, 0, 0, 0, 3]);
+    assert_eq!(retired[12..], [0; 68]);
+}
+
+#[test]
+fn every_unsound_record_is_refused() {
+    let counter = |n: u64| n.to_be_bytes();
+    let sending = filled(Suite::Aes128GcmSha256_128);
+    let unsound = |at: usize, bytes: &[u8]| {
+        let mut store = sending.clone();
+        store[at..at + bytes.len()].copy_from_slice(bytes);
+        remove(&mut store, 1) == Err(StoreNotSound)
+    };
+    let (first, second, third) = (0, RECORD, 2 * RECORD);
+    assert!(unsound(first, &[0]) && unsound(first, &[4]) && unsound(first, &[0x81]));
+    assert!(unsound(first + 1, &[0]) && unsound(first + 1, &[6]) && unsound(first + 1, &[0x84]));
+    assert!(unsound(first + 2, &[1]) && unsound(first + 3, &[1]));
+    assert!(unsound(second + 4, &[0, 0, 0, 0, 0, 0, 0, 1]));
+    assert!(unsound(third + 4, &[0, 0, 0, 0, 0, 0, 0, 1]));
+    for (record, highest) in [(first, MAX_COUNTER), (second, 0), (third, MAX_COUNTER)] {
+        assert!(!unsound(record + 12, &counter(highest)));
+        assert!(unsound(record + 12, &counter(highest + 1)));
+        assert!(unsound(record + 12, &counter(u64::MAX)));
+    }
+    for key_end in [first + 48, first + 79, second + 48, second + 79] {
+        assert!(unsound(key_end, &[1]));
+    }
+    for at in 20..80 {
+        assert!(unsound(third + at, &[1]));
+    }
+    // Any value is allowed where a salt or a key stands.
+    assert!(!unsound(first + 20, &[0; 28]) && !unsound(second + 20, &[255; 28]));
+
+    for at in 1..RECORD {
+        let mut store = made(2);
+        store[RECORD + at] = 1;
+        assert_eq!(remove(&mut store, 0), Err(StoreNotSound), "byte {at}");
+    }
+}
+
+#[test]
+fn records_decode_to_what_was_encoded() {
+    for suite in SUITES {
+        for state in [State::Sending, State::Receiving] {
+            let record = Record::new(state, suite, u64::MAX, &BASE_KEY);
+            assert_eq!(Record::decode(&record.encode()), Ok(Some(record.clone())));
+            let retired = record.retired();
+            assert_eq!(Record::decode(&retired.encode()), Ok(Some(retired)));
+        }
+    }
+}
+
+/// `call` refuses with `refusal` and changes nothing in `store` or `room`.
+#[track_caller]
+fn refused(
+    store: &[u8],
+    refusal: Refusal,
+    call: impl Fn(&mut [u8], &mut [u8]) -> Answer,
+    room: usize,
+) {
+    let mut left = store.to_vec();
+    let mut room = vec![0x5a; room];
+    assert_eq!(call(&mut left, &mut room), Err(refusal));
+    assert_eq!(left, store);
+    assert!(room.iter().all(|&byte| byte == 0x5a));
+}
+
+#[test]
+fn add_refuses_in_order() {
+    let store = filled(SUITES[0]);
+    let unsound = vec![0; 79];
+    let call = |suite, kid, length: usize| {
+        move |store: &mut [u8], _: &mut [u8]| {
+            add(store, Role::Sending, suite, kid, &vec![9; length])
+        }
+    };
+    refused(&unsound, StoreNotSound, call(0, 1, 0), 0);
+    refused(&store, NoSuchSuite, call(0, 1, 0), 0);
+    refused(&store, NoSuchSuite, call(6, 1, 0), 0);
+    refused(&store, NoSuchSuite, call(1 << 32 | 1, 1, 0), 0);
+    refused(&store, BaseKeyLength, call(1, 1, 15), 0);
+    refused(&store, BaseKeyLength, call(1, 1, 65), 0);
+    for kid in 1..=3 {
+        refused(&store, KidHeld, call(1, kid, 16), 0);
+    }
+    refused(&store, StoreFull, call(1, 4, 64), 0);
+}
+
+#[test]
+fn a_64th_key_fits_and_a_65th_does_not() {
+    let mut store = made(MAX_RECORDS);
+    for kid in 0..64 {
+        assert_eq!(add(&mut store, Role::Receiving, 1, kid, &BASE_KEY), Ok(0));
+    }
+    refused(
+        &store,
+        StoreFull,
+        |s, _| add(s, Role::Sending, 1, 64, &BASE_KEY),
+        0,
+    );
+}
+
+#[test]
+fn base_keys_of_16_to_64_bytes() {
+    for length in 0..=80 {
+        let answer = add(&mut made(1), Role::Sending, 5, 0, &vec![1; length]);
+        assert_eq!(answer.is_ok(), (16..=64).contains(&length));
+    }
+}
+
+#[test]
+fn remove_refuses_in_order() {
+    let store = filled(SUITES[1]);
+    refused(&store[..100], StoreNotSound, |s, _| remove(s, 9), 0);
+    refused(&store, KidUnknown, |s, _| remove(s, 9), 0);
+    refused(&store, WrongRole, |s, _| remove(s, 3), 0);
+}
+
+#[test]
+fn a_kid_once_sending_never_returns_and_a_received_one_may() {
+    let mut store = filled(SUITES[2]);
+    assert_eq!(remove(&mut store, 1), Ok(0));
+    assert_eq!(remove(&mut store, 2), Ok(0));
+    assert_eq!(store[RECORD..2 * RECORD], [0; RECORD]);
+    for kid in [1, 3] {
+        refused(
+            &store,
+            KidHeld,
+            |s, _| add(s, Role::Sending, 1, kid, &BASE_KEY),
+            0,
+        );
+        refused(
+            &store,
+            KidHeld,
+            |s, _| add(s, Role::Receiving, 1, kid, &BASE_KEY),
+            0,
+        );
+    }
+    // The room of KID 2 is the only one left.
+    assert_eq!(add(&mut store, Role::Sending, 1, 2, &BASE_KEY), Ok(0));
+    assert_eq!(store[RECORD..][..2], [1, 1]);
+    refused(
+        &store,
+        StoreFull,
+        |s, _| add(s, Role::Receiving, 1, 4, &BASE_KEY),
+        0,
+    );
+}
+
+#[test]
+fn seal_refuses_in_order() {
+    let mut store = filled(SUITES[0]);
+    let long = vec![0; MAX_PLAINTEXT + 1];
+    let call = |kid, metadata: usize, plaintext: usize| {
+        let long = &long;
+        move |store: &mut [u8], room: &mut [u8]| {
+            seal(store, kid, &long[..metadata], &long[..plaintext], room)
+        }
+    };
+    refused(&store[1..], StoreNotSound, call(9, 0, 32_769), 0);
+    refused(&store, KidUnknown, call(9, 0, 32_769), 0);
+    refused(&store, WrongRole, call(2, 0, 32_769), 0);
+    refused(&store, WrongRole, call(3, 0, 32_769), 0);
+    refused(&store, TooLong, call(1, 0, 32_769), 0);
+    refused(&store, TooLong, call(1, 1_025, 0), 0);
+    refused(&store, RoomShort, call(1, 1_024, 0), 10);
+    refused(&store, RoomShort, call(1, 1_024, 32_768), 32_768 + 10);
+    set_counter(&mut store, MAX_COUNTER);
+    refused(&store, CounterSpent, call(1, 0, 32_769), 0);
+}
+
+#[test]
+fn lengths_of_empty_frames() {
+    for (suite, length) in SUITES.into_iter().zip([11, 9, 5, 17, 17]) {
+        let frame = seal_to_vec(&mut filled(suite), 1, b"", b"");
+        assert_eq!(frame.len(), length);
+        assert_eq!(frame[0], 0x10);
+    }
+}
+
+#[test]
+fn the_last_counter_seals_and_then_no_more() {
+    for suite in SUITES {
+        let mut store = filled(suite);
+        set_counter(&mut store, MAX_COUNTER - 1);
+        let frame = seal_to_vec(&mut store, 1, b"", b"last");
+        assert_eq!(frame[..6], [0x1c, 0xff, 0xff, 0xff, 0xff, 0xff]);
+        refused(
+            &store,
+            CounterSpent,
+            |s, room| seal(s, 1, b"", b"", room),
+            64,
+        );
+        assert_eq!(open(&receiver(suite), b"", &frame, &mut [0; 4]), Ok(4));
+    }
+}
+
+#[test]
+fn the_longest_frame_seals_and_opens() {
+    let mut generator = Generator::new(0x0073_746f_7265_0001);
+    let plaintext = generator.bytes(MAX_PLAINTEXT);
+    let metadata = generator.bytes(MAX_METADATA);
+    for suite in SUITES {
+        let frame = seal_to_vec(&mut filled(suite), 1, &metadata, &plaintext);
+        let mut room = vec![0x5a; MAX_PLAINTEXT + 1];
+        let answer = open(&receiver(suite), &metadata, &frame, &mut room);
+        assert_eq!(answer, Ok(MAX_PLAINTEXT));
+        assert_eq!(room[..MAX_PLAINTEXT], plaintext);
+        assert_eq!(room[MAX_PLAINTEXT], 0x5a);
+    }
+}
+
+#[test]
+fn open_refuses_in_order() {
+    let suite = SUITES[0];
+    let store = filled(suite);
+    let receiver = receiver(suite);
+    let long = vec![0; 2 * MAX_PLAINTEXT];
+    let call = |frame: Vec<u8>, metadata: usize| {
+        let long = &long;
+        move |store: &mut [u8], room: &mut [u8]| open(store, &long[..metadata], &frame, room)
+    };
+    let frame = seal_to_vec(&mut store.clone(), 1, b"", b"plaintext");
+    // KID 1, CTR 0, then as many zeros as a plaintext one byte too long.
+    let too_long = [&[0x10][..], &long[..MAX_PLAINTEXT + 1 + suite.nt()]].concat();
+
+    refused(&store[..0], StoreNotSound, call(vec![], 1_025), 0);
+    refused(&store, BadHeader, call(vec![], 1_025), 0);
+    refused(&store, BadHeader, call(vec![0x08, 0x05], 1_025), 0);
+    refused(&store, KidUnknown, call(vec![0x40], 1_025), 0);
+    refused(&store, WrongRole, call(vec![0x10], 1_025), 0);
+    refused(&store, WrongRole, call(vec![0x30], 1_025), 0);
+    refused(&receiver, NoTag, call(frame[..10].to_vec(), 1_025), 0);
+    refused(&receiver, TooLong, call(too_long.clone(), 0), 0);
+    refused(&receiver, TooLong, call(frame.clone(), 1_025), 0);
+    let longest = too_long[..too_long.len() - 1].to_vec();
+    refused(&receiver, RoomShort, call(longest, 0), MAX_PLAINTEXT - 1);
+    refused(&receiver, RoomShort, call(frame.clone(), 1_024), 8);
+    refused(&receiver, TagDiffers, call(frame.clone(), 1_024), 9);
+}
+
+#[test]
+fn damaged_and_cut_frames_show_nothing() {
+    for suite in SUITES {
+        let receiver = receiver(suite);
+        let mut store = filled(suite);
+        set_counter(&mut store, 300);
+        let frame = seal_to_vec(&mut store, 1, b"metadata", b"plaintext");
+        let opens = |frame: &[u8]| {
+            let mut room = [0x5a; 64];
+            let answer = open(&receiver, b"metadata", frame, &mut room);
+            assert!(answer.is_ok() || room == [0x5a; 64]);
+            answer.is_ok()
+        };
+        assert!(opens(&frame));
+        for bit in 0..8 * frame.len() {
+            let mut damaged = frame.clone();
+            damaged[bit / 8] ^= 1 << (bit % 8);
+            assert!(!opens(&damaged));
+        }
+        for length in 0..frame.len() {
+            assert!(!opens(&frame[..length]));
+        }
+    }
+}
+
+/// Random calls against a plain model of what the store holds: every frame
+/// that is sealed has a counter of its own and opens at the other end.
+#[test]
+fn a_long_list_of_calls() {
+    let mut generator = Generator::new(0x0073_746f_7265_0002);
+    let mut store = made(8);
+    let mut counters = std::collections::HashMap::new();
+    let mut sealed = 0;
+    for _ in 0..20_000 {
+        let kid = generator.up_to(19) as u64;
+        let suite = SUITES[kid as usize % 5];
+        match generator.up_to(9) {
+            0 => {
+                let role = *generator.pick(&[Role::Sending, Role::Receiving]);
+                let _ = add(&mut store, role, suite.number(), kid, &BASE_KEY);
+            }
+            1 if generator.one_in(40) => {
+                let _ = remove(&mut store, kid);
+            }
+            _ => {
+                let length = generator.up_to(40);
+                let plaintext = generator.bytes(length);
+                let mut room = vec![0; 128];
+                let Ok(length) = seal(&mut store, kid, b"m", &plaintext, &mut room) else {
+                    continue;
+                };
+                sealed += 1;
+                let (_, ctr, _) = reference::header::read_header(&room).unwrap();
+                let next = counters.entry(kid).or_insert(0);
+                assert_eq!(ctr, *next);
+                *next += 1;
+
+                let mut other = made(1);
+                add(&mut other, Role::Receiving, suite.number(), kid, &BASE_KEY).unwrap();
+                let mut opened = vec![0; plaintext.len()];
+                let answer = open(&other, b"m", &room[..length], &mut opened);
+                assert_eq!(answer, Ok(plaintext.len()));
+                assert_eq!(opened, plaintext);
+            }
+        }
+    }
+    assert!(sealed > 1_000, "{sealed} sealed");
+}
