@@ -1,0 +1,20 @@
+use borrow.Author.Needs.{needs}
+use Rattle.sha2.proofs.sha256.sums.Statement.{statement}
+use Rattle.sha2.proofs.sha256.sums.Tie as tie
+
+returns : tie.Need-returns
+returns c = cc
+
+pub sums-spec : {M : Type 1} → statement M
+sums-spec =
+    tie.close
+    (tie.spec
+    (λ c κs. search needs)
+    (λ c κs. search needs)
+    (λ c κs. search needs)
+    (λ c κs. search needs)
+    (λ c κs. search needs)
+    (λ c κs. search needs)
+    (λ c κs. search needs)
+    (λ c κs. search needs)
+    returns)

@@ -1,0 +1,3 @@
+pub mod Sha2
+pub mod Sizes
+pub mod Running
