@@ -1,0 +1,10 @@
+use mathlib.Core.List.{[]}
+use borrow.Author.Needs.{needs}
+use Rattle.hmac.proofs.sha512.hmac_sha512.Statement.{statement}
+use Rattle.hmac.proofs.sha512.hmac_sha512.Tie as tie
+
+returns : tie.Need-returns
+returns c = (c .finish .ensures .0 _ _ (c .before .feed .ensures .0 _ [] (c .before .before .new .ensures .0)), c .finish .ensures .1)
+
+pub hmac-sha512-spec : {M : Type 1} → statement M
+hmac-sha512-spec = tie.close (tie.spec (λ c κs. search needs) (λ c κs. search needs) (λ c κs. search needs) returns)

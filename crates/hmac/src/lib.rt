@@ -1,0 +1,24 @@
+// HMAC, RFC 2104, and HKDF, RFC 5869, with SHA-256 and with SHA-512.
+mod sha256;
+mod sha512;
+
+pub use sha256::HmacSha256;
+pub use sha256::hkdf_expand_sha256;
+pub use sha256::hkdf_extract_sha256;
+pub use sha256::hmac_sha256;
+pub use sha512::HmacSha512;
+pub use sha512::hkdf_expand_sha512;
+pub use sha512::hkdf_extract_sha512;
+pub use sha512::hmac_sha512;
+ghost use mathlib.Core.Path.{_≡_};
+ghost use Prim.Native.Nat.{min};
+
+// The lesser of two numbers.
+fn least(a: usize, b: usize) -> usize
+    ensures { λ r. ⌜ r ≡ min a b ⌝ }
+{
+    if a < b { a } else { b }
+}
+
+// The most bytes of a key, of a text that is given whole, and of HKDF's info.
+pub const LARGEST: usize = 0x8000_0000;
