@@ -1,0 +1,64 @@
+-- What the crates above cite of AES.
+-- Assumes nothing.
+use mathlib.Core.Path.{_≡_, sym, subst}
+use mathlib.Core.List.{List, _++_}
+use Prim.Native.Nat.{ℕ, _+_, _*_, _≤_}
+use native.Mathlib.Omega.{arith}
+use lib.ListN.{length, getD, take, drop, length-append, length-drop, take-append-drop}
+use lib.Seq.{take-all, drop-drop}
+use Rattle.octets.specs.Octets.{Octets, number, bytes}
+use Rattle.octets.proofs.Laws.{bytes-length, bytes-octets, bytes-number, octets-append, octets-drop}
+use Rattle.aes.specs.Aes.{KeySize, stateOf, blockOf, encrypt}
+use Rattle.aes.specs.Context.{Context, Ready, keyOf}
+
+-- The two instances: AES-128 and AES-256.
+pub aes-128 : KeySize 16
+aes-128 = record { whole = omega arith; least = omega arith; most = omega arith }
+
+pub aes-256 : KeySize 32
+aes-256 = record { whole = omega arith; least = omega arith; most = omega arith }
+
+-- A context is of the key that it holds.
+pub context-key : {key ctx : List ℕ} → Context key ctx → keyOf ctx ≡ key
+context-key k = k .keyed
+
+pub context-ready : {key ctx : List ℕ} → Context key ctx → Ready ctx
+context-ready {key} {ctx} k = subst (λ (x : List ℕ). Context x ctx) (sym (k .keyed)) k
+
+-- A block is 16 bytes.
+pub block-length : (s : List ℕ) → length (blockOf s) ≡ 16
+unfolding blockOf
+block-length s = simp (length-append, bytes-length)
+
+pub block-octets : (s : List ℕ) → Octets (blockOf s)
+unfolding blockOf
+block-octets s =
+    let a = bytes 4 (getD s 0 0) in
+    let b = bytes 4 (getD s 1 0) in
+    let c = bytes 4 (getD s 2 0) in
+    let d = bytes 4 (getD s 3 0) in
+    octets-append a (b ++ (c ++ d)) (bytes-octets 4 _)
+    (octets-append b (c ++ d) (bytes-octets 4 _) (octets-append c d (bytes-octets 4 _) (bytes-octets 4 _)))
+
+pub encrypt-length : (key block : List ℕ) → length (encrypt key block) ≡ 16
+unfolding encrypt
+encrypt-length key block = block-length _
+
+pub encrypt-octets : (key block : List ℕ) → Octets (encrypt key block)
+unfolding encrypt
+encrypt-octets key block = block-octets _
+
+-- A block of 16 bytes is that of its own state.
+pub block-state : (l : List ℕ) → length l ≡ 16 → Octets l → blockOf (stateOf l) ≡ l
+unfolding blockOf stateOf
+block-state l e o =
+    let w : (c : ℕ) → 4 * c + 4 ≤ 16 → bytes 4 (number 4 (drop (4 * c) l)) ≡ take 4 (drop (4 * c) l) =
+    λ c h. bytes-number 4 (drop (4 * c) l) (octets-drop (4 * c) l o) (simp length-drop (omega arith)) in
+    rw (w 0 (omega arith), w 1 (omega arith), w 2 (omega arith), w 3 (omega arith))
+    (rw (
+      take-all 4 (drop 12 l) (simp length-drop (omega arith)),
+      ← drop-drop 4 8 l,
+      take-append-drop 4 (drop 8 l),
+      ← drop-drop 4 4 l,
+      take-append-drop 4 (drop 4 l),
+    ) (take-append-drop 4 l))

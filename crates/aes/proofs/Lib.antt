@@ -1,0 +1,7 @@
+pub mod Entries
+pub mod SBox
+pub mod Words
+pub mod Columns
+pub mod Expansion
+pub mod Blocks
+pub mod Laws

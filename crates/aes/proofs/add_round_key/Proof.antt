@@ -1,0 +1,32 @@
+-- `aes::add_round_key` meets its contract: the four sums are those of the definition.
+-- Assumes nothing.
+use native.Mathlib.Nat.{add-zero}
+use Rattle.aes.specs.Aes.{addRoundKey}
+use borrow.Author.Needs.{needs}
+use Rattle.aes.proofs.add_round_key.Statement.{statement}
+use Rattle.aes.proofs.add_round_key.Tie as tie
+
+returns : tie.Need-returns
+unfolding addRoundKey
+returns c = simp add-zero
+
+pub add-round-key-spec : {M : Type 1} → statement M
+add-round-key-spec =
+    tie.close
+    (tie.spec
+    (λ c. search needs)
+    (λ c. search needs)
+    (λ c. search needs)
+    (λ c. search needs)
+    (λ c. search needs)
+    (λ c. search needs)
+    (λ c. search needs)
+    (λ c. search needs)
+    (λ c. search needs)
+    (λ c. search needs)
+    (λ c. search needs)
+    (λ c. search needs)
+    (λ c. search needs)
+    (λ c. search needs)
+    (λ c. search needs)
+    returns)

@@ -1,0 +1,51 @@
+-- `aes::encrypt` meets its contract: the loop's invariant: t is the state after r rounds.
+-- Assumes nothing.
+use mathlib.Core.Path.{_≡_, refl}
+use Prim.Native.Nat.{_+_, _≤_, _-_}
+use native.Mathlib.Omega.{arith}
+use Rattle.aes.specs.Aes.{rounds}
+use Rattle.aes.specs.Context.{listOf}
+use Rattle.aes.proofs.Expansion.{rounds-step, encrypted}
+use borrow.Author.Needs.{needs}
+use Rattle.aes.proofs.encrypt.Statement.{statement}
+use Rattle.aes.proofs.encrypt.Tie as tie
+
+abbrev Inv-loop : tie.InvT-loop
+Inv-loop ctx n t₀ r₀ t r = (r + 1 ≤ n) × (listOf t ≡ rounds ctx (listOf t₀) r)
+
+abbrev μ-loop : tie.MeasureT-loop
+μ-loop ctx n t₀ r₀ t r = n - r
+
+loop-holds : tie.Need-loop-holds Inv-loop μ-loop
+unfolding rounds
+loop-holds c = (omega arith, refl)
+
+loop-again : tie.Need-loop-again Inv-loop μ-loop
+loop-again c =
+    (omega arith, rounds-step _ _ _ _ _ _ (c .before .before .before .loop .inv .1) (c .before .mix .ensures) (c .add-round-key2 .ensures))
+
+returns : tie.Need-returns Inv-loop μ-loop
+returns c =
+    encrypted _ _ _ _ _ _ _ _ _ (c .before .before .before .before .before .before .pre) refl (omega arith)
+    (c .before .before .before .before .add-round-key .ensures) (c .before .before .before .loop .inv .1)
+    (c .before .shift .ensures) (c .add-round-key3 .ensures)
+
+pub encrypt-spec : {M : Type 1} → statement M
+encrypt-spec =
+    tie.close
+    (tie.spec
+    Inv-loop
+    μ-loop
+    (λ c. search needs)
+    (λ c. search needs)
+    (λ c κs. search needs)
+    loop-holds
+    (λ c. search needs)
+    (λ c. search needs)
+    (λ c κs. search needs)
+    (λ c κs. search needs)
+    (λ c. search needs)
+    loop-again
+    (λ c κs. search needs)
+    (λ c κs. search needs)
+    returns)

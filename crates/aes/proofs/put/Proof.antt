@@ -1,0 +1,27 @@
+-- `aes::put` meets its contract: what is written to the front of the part is written at its index.
+-- Assumes nothing.
+use Prim.Native.Nat.{_-_}
+use lib.ListN.{length}
+use mathlib.Core.Path.{_∙_}
+use native.Mathlib.Omega.{arith}
+use Rattle.octets.specs.Octets.{bytes}
+use Rattle.octets.proofs.Laws.{bytes-length, lent-pasted}
+use borrow.Author.Needs.{needs}
+use Rattle.aes.proofs.put.Statement.{statement}
+use Rattle.aes.proofs.put.Tie as tie
+
+returns : tie.Need-returns
+returns c =
+    let a = c .before .before .before .before .before .args in
+    lent-pasted (a .out .now) _ (bytes 4 (a .w)) (a .i) (length (a .out .now) - a .i) (rw bytes-length (omega arith)) (omega arith) (c .before .before .write-be32 .ensures ∙ rw bytes-length)
+
+pub put-spec : {M : Type 1} → statement M
+put-spec =
+    tie.close
+    (tie.spec
+    (λ c. search needs)
+    (λ c. search needs)
+    (λ c. search needs)
+    (λ c κs. search needs)
+    (λ c. search needs)
+    returns)

@@ -1,0 +1,23 @@
+-- `aes::shift` meets its contract: each column is what the two transformations make of the state.
+-- Assumes nothing.
+use Rattle.aes.specs.declared.State.{State}
+use Rattle.aes.proofs.Columns.{shifted, shift-columns}
+use borrow.Author.Needs.{needs}
+use Rattle.aes.proofs.shift.Statement.{statement}
+use Rattle.aes.proofs.shift.Tie as tie
+
+returns : tie.Need-returns
+unfolding shifted
+returns c =
+    let s : State = c .before .before .before .before .args .s in
+    cc (shift-columns (s .c0) (s .c1) (s .c2) (s .c3))
+
+pub shift-spec : {M : Type 1} → statement M
+shift-spec =
+    tie.close
+    (tie.spec
+    (λ c κs. search needs)
+    (λ c κs. search needs)
+    (λ c κs. search needs)
+    (λ c κs. search needs)
+    returns)
