@@ -1,0 +1,80 @@
+-- Laws of the hash key and of the tag.
+-- Assumes nothing.
+use mathlib.Core.Path.{_≡_, refl, ap, sym, _∙_, subst}
+use mathlib.Core.List.{List, [], _∷_, _++_, append-nil}
+use Prim.Native.Nat.{ℕ, _+_, _*_, _-_, _/_, _%_, _^_, _≤_, _<_}
+use native.Mathlib.Nat.{zero-add}
+use native.Mathlib.Omega.{arith}
+use borrow.Rule.Slice.PartMut.{putMid}
+use lib.Bits.{bitXor}
+use lib.ListN.{length, drop, take, replicate, length-append, length-drop, drop-of-length-le}
+use lib.Pow.{high, low}
+use Rattle.octets.specs.Octets.{number, bytes, pasted, xors}
+use lib.Seq.{take-at, drop-at, take-all, length-take-le}
+use Rattle.octets.proofs.Laws.{number-append, bytes-length, bytes-add, bytes-mod, lent-bytes, pasted-append, pasted-front}
+use Rattle.aes.specs.Aes.{encrypt}
+use Rattle.aes.proofs.Laws.{encrypt-length}
+use Rattle.gcm.specs.Counter.{counterBlock, ctr}
+use Rattle.gcm.specs.Ghash.{product, absorb, pair, HashKey}
+use Rattle.gcm.specs.Gcm.{hashKey, hash, gcmTag, gcmCiphertext, gcmEncrypt}
+use Rattle.gcm.proofs.Laws.{tag-length}
+
+pub hash-key-made : (key h t : List ℕ) (v : ℕ) → h ≡ encrypt key (replicate 16 0) ++ drop 16 (replicate 16 0) → v ≡ number 16 h
+    → HashKey v t → HashKey (hashKey key) t
+unfolding hashKey
+hash-key-made key h t v e f k =
+    let n : length (encrypt key (replicate 16 0)) ≡ 16 = encrypt-length key (replicate 16 0) in
+    subst (λ (x : ℕ). HashKey x t) (f ∙ ap (number 16) e ∙ number-append 16 (encrypt key (replicate 16 0)) _ (omega arith)) k
+
+pub hashed : (h : ℕ) (a b c : List ℕ) (u y s r : ℕ) → u ≡ absorb h 0 (a ++ b) → y ≡ absorb h u (c ++ [])
+    → s ≡ bitXor y (pair ((length a + length b) * 8) (length c * 8)) → r ≡ product s h → r ≡ hash h (a ++ b) c
+unfolding hash
+hashed h a b c u y s r e f g k =
+    let m : (length a + length b) * 8 ≡ 8 * length (a ++ b) = rw length-append (omega arith) in
+    let n : length c * 8 ≡ 8 * length c = omega arith in
+    k ∙ rw (g, f, e, append-nil c, m, n)
+
+-- A block written in two halves.
+pub stored-block : (l o p : List ℕ) (hi lo : ℕ) → 16 ≤ length l → lo < 2 ^ 64 → o ≡ bytes 8 hi ++ drop 8 l
+    → p ≡ bytes 8 lo ++ drop 8 (take (length o - 8) (drop 8 o)) → putMid 8 (length o - 8) o p ≡ bytes 16 (pair hi lo) ++ drop 16 l
+stored-block l o p hi lo h k e f =
+    let a = bytes 8 hi in
+    let b = bytes 8 lo in
+    let la : length a ≡ 8 = bytes-length 8 hi in
+    let lb : length b ≡ 8 = bytes-length 8 lo in
+    let n : length o ≡ length l = ap length e ∙ simp (length-append, length-drop) (omega arith) in
+    let q : o ≡ pasted l 0 a = e ∙ sym (pasted-front l a ∙ ap (λ (x : ℕ). a ++ drop x l) la) in
+    let m : length (a ++ b) ≡ 16 = length-append a b ∙ rw (la, lb) in
+    let w : bytes 16 (pair hi lo) ≡ a ++ b =
+    bytes-add 8 8 (pair hi lo) ∙ rw (high hi 64 k, ← bytes-mod 8 (pair hi lo), low hi 64 k) in
+    lent-bytes o p 8 8 lo (omega arith) f
+    ∙ ap (λ (x : List ℕ). pasted x 8 b) q
+    ∙ ap (λ (x : ℕ). pasted (pasted l 0 a) x b) (sym (zero-add (length a) ∙ la))
+    ∙ pasted-append l 0 a b (omega arith)
+    ∙ pasted-front l (a ++ b) ∙ rw (m, w)
+
+pub tagged : (key nonce aad c s o : List ℕ) (y : ℕ) → y ≡ hash (hashKey key) aad c → s ≡ bytes 16 y ++ drop 16 (replicate 16 0)
+    → o ≡ xors s (encrypt key (counterBlock nonce 1)) → o ≡ gcmTag key nonce aad c
+unfolding gcmTag
+tagged key nonce aad c s o y e f g = g ∙ rw (f, e, append-nil (bytes 16 (hash (hashKey key) aad c)))
+
+pub front-length : (p l : List ℕ) (n : ℕ) → length p ≡ n → n ≡ length (take n (p ++ l))
+front-length p l n e = sym (ap length (take-at p l n e) ∙ e)
+
+-- The ciphertext p at the front of z, and the tag m copied after it.
+pub sealed : (key nonce aad x z p m q : List ℕ) → length z ≡ length x + 16 → length p ≡ length x → p ≡ ctr key nonce 2 x
+    → m ≡ gcmTag key nonce aad (take (length x) (p ++ drop (length x) z))
+    → q ≡ m ++ drop (length m) (take (length (p ++ drop (length x) z) - length x) (drop (length x) (p ++ drop (length x) z)))
+    → putMid (length x) (length (p ++ drop (length x) z) - length x) (p ++ drop (length x) z) q ≡ gcmEncrypt key nonce aad x
+unfolding gcmEncrypt gcmCiphertext
+sealed key nonce aad x z p m q d n e f g =
+    let r = drop (length x) z in
+    let lr : length r ≡ 16 = length-drop (length x) z ∙ omega arith in
+    let u : take (length x) (p ++ r) ≡ p = take-at p r (length x) n in
+    let v : drop (length x) (p ++ r) ≡ r = drop-at p r (length x) n in
+    let k : length (p ++ r) - length x ≡ 16 = rw length-append (omega arith) in
+    let lm : length m ≡ 16 = ap length f ∙ tag-length key nonce aad _ in
+    let t : take 16 r ≡ r = take-all 16 r (omega arith) in
+    let o : drop 16 r ≡ [] = drop-of-length-le r {i = 16} (omega arith) in
+    let s : q ≡ m = g ∙ rw (v, k, lm, t, o) (append-nil m) in
+    rw (v, k, u, s, o, append-nil m, f) (rw (u, e))

@@ -1,0 +1,25 @@
+-- `gcm::digest` meets its contract: the two parts, the ciphertext and the lengths are hashed as the definition says.
+-- Assumes nothing.
+use Rattle.gcm.proofs.Tags.{hashed}
+use borrow.Author.Needs.{needs}
+use Rattle.gcm.proofs.digest.Statement.{statement}
+use Rattle.gcm.proofs.digest.Tie as tie
+
+returns : tie.Need-returns
+returns c =
+    let a = c .before .before .before .before .before .before .before .before .args in
+    hashed _ (a .header .now) (a .metadata .now) (a .ciphertext .now) _ _ _ _ (c .before .before .before .before .absorb .ensures) (c .before .before .absorb2 .ensures) (c .before .plus .ensures) (c .times .ensures)
+
+pub digest-spec : {M : Type 1} → statement M
+digest-spec =
+    tie.close
+    (tie.spec
+    (λ c κs. search needs)
+    (λ c. search needs)
+    (λ c κs. search needs)
+    (λ c. search needs)
+    (λ c. search needs)
+    (λ c. search needs)
+    (λ c κs. search needs)
+    (λ c κs. search needs)
+    returns)

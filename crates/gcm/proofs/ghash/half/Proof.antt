@@ -1,0 +1,16 @@
+-- `gcm::ghash::half` meets its contract: the bit that leaves the high half enters the low one.
+-- Assumes nothing.
+use native.Mathlib.Omega.{arith}
+use Rattle.gcm.proofs.Products.{half-fits, half-pair}
+use borrow.Author.Needs.{needs}
+use Rattle.gcm.proofs.ghash.half.Statement.{statement}
+use Rattle.gcm.proofs.ghash.half.Tie as tie
+
+add-t9 : tie.Need-add-t9
+add-t9 c = record { fits = half-fits (c .before .before .before .before .args .v .hi) (c .before .before .before .before .args .v .lo) (omega arith) }
+
+returns : tie.Need-returns
+returns c = half-pair (c .before .before .before .before .args .v .hi) (c .before .before .before .before .args .v .lo) (omega arith)
+
+pub half-spec : {M : Type 1} → statement M
+half-spec = tie.close (tie.spec (λ c. search needs) (λ c. search needs) add-t9 returns)

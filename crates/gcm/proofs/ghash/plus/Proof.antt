@@ -1,0 +1,13 @@
+-- `gcm::ghash::plus` meets its contract: the XOR of the halves is the XOR of the blocks.
+-- Assumes nothing.
+use native.Mathlib.Omega.{arith}
+use Rattle.gcm.proofs.Products.{pair-sum}
+use borrow.Author.Needs.{needs}
+use Rattle.gcm.proofs.ghash.plus.Statement.{statement}
+use Rattle.gcm.proofs.ghash.plus.Tie as tie
+
+returns : tie.Need-returns
+returns c = let a = c .before .before .before .before .args in pair-sum (a .a .hi) (a .a .lo) (a .b .hi) (a .b .lo) (omega arith) (omega arith)
+
+pub plus-spec : {M : Type 1} → statement M
+plus-spec = tie.close (tie.spec returns)

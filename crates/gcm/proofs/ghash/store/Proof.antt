@@ -1,0 +1,24 @@
+-- `gcm::ghash::store` meets its contract: the bytes of the two halves are those of the number.
+-- Assumes nothing.
+use native.Mathlib.Omega.{arith}
+use Rattle.gcm.proofs.Tags.{stored-block}
+use borrow.Author.Needs.{needs}
+use Rattle.gcm.proofs.ghash.store.Statement.{statement}
+use Rattle.gcm.proofs.ghash.store.Tie as tie
+
+returns : tie.Need-returns
+returns c =
+    let a = c .before .before .before .before .before .before .before .before .before in
+    stored-block (a .args .out .now) _ _ (a .args .b .hi) (a .args .b .lo) (a .pre) (omega arith) (c .before .before .before .before .before .before .write-be64 .ensures) (c .before .before .write-be642 .ensures)
+
+pub store-spec : {M : Type 1} → statement M
+store-spec =
+    tie.close
+    (tie.spec
+    (λ c κs. search needs)
+    (λ c. search needs)
+    (λ c. search needs)
+    (λ c. search needs)
+    (λ c κs. search needs)
+    (λ c. search needs)
+    returns)

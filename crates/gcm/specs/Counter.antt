@@ -1,0 +1,29 @@
+-- Counter mode (SP 800-38A §6.5) over counter blocks of a 12-byte nonce and a 32-bit block count, as AES-CTR of RFC 9605
+-- and GCM (SP 800-38D §6.5) both have them.
+-- Assumes nothing.
+use mathlib.Core.List.{List, [], _++_}
+use Prim.Native.Nat.{ℕ, zero, suc, _+_, _/_, _^_}
+use lib.ListN.{length}
+use Rattle.octets.specs.Octets.{bytes, xors}
+use Rattle.aes.specs.Aes.{encrypt}
+
+-- The counter block: the nonce, then the block count, big-endian.
+unfoldable pub counterBlock : List ℕ → ℕ → List ℕ
+counterBlock nonce count = nonce ++ bytes 4 count
+
+-- How many block counts there are.
+abbrev pub counts : ℕ
+counts = 2 ^ 32
+
+-- How many blocks n bytes take, the last one counted whole.
+abbrev pub blocks : ℕ → ℕ
+blocks n = (n + 15) / 16
+
+-- The key stream: n encrypted counter blocks, from the given block count on.
+unfoldable pub keyStream : List ℕ → List ℕ → ℕ → ℕ → List ℕ
+keyStream key nonce count zero = []
+keyStream key nonce count (suc n) = keyStream key nonce count n ++ encrypt key (counterBlock nonce (count + n))
+
+-- Encryption and decryption: the bytes XOR the key stream from the given block count on.
+unfoldable pub ctr : List ℕ → List ℕ → ℕ → List ℕ → List ℕ
+ctr key nonce count l = xors l (keyStream key nonce count (blocks (length l)))
