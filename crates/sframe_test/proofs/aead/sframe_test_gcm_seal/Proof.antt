@@ -1,0 +1,67 @@
+-- `sframe_test::aead::sframe_test_gcm_seal` meets its contract: the tests leave what the functions below require, and a refusal changes nothing.
+-- Assumes nothing.
+use mathlib.Core.Path.{refl, sym}
+use mathlib.Core.Logic.{inl, inr}
+use native.Mathlib.Omega.{arith}
+use lib.Seq.{length-take-le}
+use Rattle.aes.proofs.Laws.{context-key, context-ready}
+use borrow.Author.Needs.{needs}
+use Rattle.sframe_test.proofs.aead.sframe_test_gcm_seal.Statement.{statement}
+use Rattle.sframe_test.proofs.aead.sframe_test_gcm_seal.Tie as tie
+
+returns : tie.Need-returns
+returns c = inr (refl, refl)
+
+returns-2 : tie.Need-returns-2
+returns-2 c = inr (refl, refl)
+
+returns-3 : tie.Need-returns-3
+returns-3 c = inr (refl, refl)
+
+returns-4 : tie.Need-returns-4
+returns-4 c = inr (refl, refl)
+
+returns-5 : tie.Need-returns-5
+returns-5 c = inr (refl, refl)
+
+returns-6 : tie.Need-returns-6
+returns-6 c = inr (refl, refl)
+
+returns-7 : tie.Need-returns-7
+returns-7 c = inr (refl, refl)
+
+returns-8 : tie.Need-returns-8
+returns-8 c = inr (refl, refl)
+
+hash-key-requires : tie.Need-hash-key-requires
+hash-key-requires c κs = context-ready (c .before .expand .ensures)
+
+slice-aggregate-encrypt : tie.Need-slice-aggregate-encrypt
+slice-aggregate-encrypt c = sym (length-take-le _ (c .before .before .before .before .before .before .before .before .before .before .before .before .before .before .before .before .before .before .before .before .args .out .now) (omega arith))
+
+encrypt-requires : tie.Need-encrypt-requires
+encrypt-requires c κs = ((context-ready (c .before .before .before .before .before .expand .ensures), c .before .before .before .hash-key .ensures), (search needs, (search needs, length-take-le _ (c .before .before .before .before .before .before .before .before .before .before .before .before .before .before .before .before .before .before .before .before .args .out .now) (omega arith))))
+
+returns-9 : tie.Need-returns-9
+returns-9 c = inl (refl, rw (c .before .before .encrypt .ensures, context-key (c .before .before .before .before .before .before .before .before .expand .ensures)))
+
+pub sframe-test-gcm-seal-spec : {M : Type 1} → statement M
+sframe-test-gcm-seal-spec =
+    tie.close
+    (tie.spec
+    returns
+    returns-2
+    returns-3
+    returns-4
+    returns-5
+    returns-6
+    returns-7
+    (λ c. search needs)
+    returns-8
+    (λ c κs. search needs)
+    hash-key-requires
+    (λ c. search needs)
+    slice-aggregate-encrypt
+    encrypt-requires
+    (λ c. search needs)
+    returns-9)

@@ -1,0 +1,50 @@
+-- `sframe_test::aead::sframe_test_ghash` meets its contract: the tests leave what the functions below require, and a refusal changes nothing.
+-- Assumes nothing.
+use mathlib.Core.Path.{refl, sym}
+use mathlib.Core.Logic.{inl, inr}
+use native.Mathlib.Omega.{arith}
+use mathlib.Core.List.{append-nil}
+use Rattle.gcm.proofs.Laws.{hash-key-of, hash-key-ready}
+use borrow.Author.Needs.{needs}
+use Rattle.sframe_test.proofs.aead.sframe_test_ghash.Statement.{statement}
+use Rattle.sframe_test.proofs.aead.sframe_test_ghash.Tie as tie
+
+returns : tie.Need-returns
+returns c = inr (refl, refl)
+
+returns-2 : tie.Need-returns-2
+returns-2 c = inr (refl, refl)
+
+returns-3 : tie.Need-returns-3
+returns-3 c = inr (refl, refl)
+
+absorb-requires : tie.Need-absorb-requires
+absorb-requires c κs = (hash-key-ready (c .before .before .expand .ensures), omega arith)
+
+returns-4 : tie.Need-returns-4
+returns-4 c =
+    inl (
+      refl,
+      rw (
+        c .before .before .store .ensures,
+        c .before .before .before .before .absorb .ensures,
+        hash-key-of (c .before .before .before .before .before .before .before .expand .ensures),
+        c .before .before .before .before .before .before .before .before .load .ensures,
+        append-nil (c .before .before .before .before .before .before .before .before .before .before .before .before .before .before .before .args .input .now),
+      ),
+    )
+
+pub sframe-test-ghash-spec : {M : Type 1} → statement M
+sframe-test-ghash-spec =
+    tie.close
+    (tie.spec
+    returns
+    returns-2
+    returns-3
+    (λ c κs. search needs)
+    (λ c κs. search needs)
+    (λ c. search needs)
+    absorb-requires
+    (λ c κs. search needs)
+    (λ c. search needs)
+    returns-4)

@@ -1,0 +1,31 @@
+use mathlib.Core.Path.{refl}
+use native.Mathlib.Omega.{arith}
+use borrow.Author.Needs.{needs}
+use Rattle.sframe_test.proofs.hash.sframe_test_hkdf_sha512.Statement.{statement}
+use Rattle.sframe_test.proofs.hash.sframe_test_hkdf_sha512.Tie as tie
+
+returns : tie.Need-returns
+returns c = (omega arith, λ e. absurd (omega arith), λ e. refl)
+
+returns-2 : tie.Need-returns-2
+returns-2 c = (omega arith, λ e. absurd (omega arith), λ e. refl)
+
+returns-3 : tie.Need-returns-3
+returns-3 c = (omega arith, λ e. absurd (omega arith), λ e. refl)
+
+returns-4 : tie.Need-returns-4
+returns-4 c = (omega arith, λ e. rw (c .before .before .before .before .before .hkdf-extract-sha512 .ensures .0) at (c .before .before .hkdf-expand-sha512 .ensures), λ e. absurd (omega arith))
+
+pub sframe-test-hkdf-sha512-spec : {M : Type 1} → statement M
+sframe-test-hkdf-sha512-spec =
+    tie.close
+    (tie.spec
+    returns
+    returns-2
+    returns-3
+    (λ c. search needs)
+    (λ c κs. search needs)
+    (λ c. search needs)
+    (λ c κs. search needs)
+    (λ c. search needs)
+    returns-4)

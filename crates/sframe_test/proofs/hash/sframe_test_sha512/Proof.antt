@@ -1,0 +1,34 @@
+use mathlib.Core.Path.{refl}
+use native.Mathlib.Omega.{arith}
+use borrow.Author.Needs.{needs}
+use Rattle.sframe_test.proofs.hash.sframe_test_sha512.Statement.{statement}
+use Rattle.sframe_test.proofs.hash.sframe_test_sha512.Tie as tie
+
+returns : tie.Need-returns
+returns c = (omega arith, λ e. absurd (omega arith), λ e. refl)
+
+returns-2 : tie.Need-returns-2
+returns-2 c = (omega arith, λ e. absurd (omega arith), λ e. refl)
+
+returns-3 : tie.Need-returns-3
+returns-3 c = (omega arith, λ e. absurd (omega arith), λ e. refl)
+
+returns-4 : tie.Need-returns-4
+returns-4 c = (omega arith, λ e. absurd (omega arith), λ e. refl)
+
+returns-5 : tie.Need-returns-5
+returns-5 c = (omega arith, λ e. rw (c .before .before .before .before .before .sha512-pieces .ensures .1, c .before .before .before .before .before .sha512-pieces .ensures .0) at (c .before .before .copy .ensures), λ e. absurd (omega arith))
+
+pub sframe-test-sha512-spec : {M : Type 1} → statement M
+sframe-test-sha512-spec =
+    tie.close
+    (tie.spec
+    returns
+    returns-2
+    returns-3
+    returns-4
+    (λ c κs. search needs)
+    (λ c. search needs)
+    (λ c κs. search needs)
+    (λ c. search needs)
+    returns-5)

@@ -1,0 +1,193 @@
+// AES, counter mode, GHASH and GCM. Each function judges its input: it answers 0 and writes its result to the front of
+// out, or it answers 1 and changes nothing.
+ghost use mathlib.Core.Path.{_≡_};
+ghost use mathlib.Core.List.{[], _++_};
+ghost use mathlib.Core.Logic.{_⊎_};
+ghost use Prim.Native.Nat.{_+_};
+ghost use lib.ListN.{length, drop};
+ghost use Rattle.octets.specs.Octets.{number, bytes};
+ghost use Rattle.aes.specs.Aes.{encrypt};
+ghost use Rattle.gcm.specs.Counter.{ctr};
+ghost use Rattle.gcm.specs.Ghash.{absorb};
+ghost use Rattle.gcm.specs.Gcm.{gcmTag, gcmEncrypt};
+
+// The longest input that GCM takes, part by part, and the last block count that an input of that length may start at.
+const MAX_BYTES: usize = 65536;
+
+const LAST_COUNT: u32 = 0xffff_0000;
+
+// AES encryption of a block of 16 bytes, under a key of 16 or 32.
+#[no_mangle]
+pub extern "C" fn sframe_test_aes(key: &[u8], block: &[u8], out: &mut [u8]) -> u32
+    ensures { λ r. ⌜ ((r ≡ 0) × (now (out .exit) ≡ encrypt (now (key .entry)) (now (block .entry)) ++ drop 16 (now (out .entry)))) ⊎ ((r ≡ 1) × (now (out .exit) ≡ now (out .entry))) ⌝ }
+{
+    if key.len() % 16 != 0 {
+        return 1;
+    }
+    if key.len() < 16 {
+        return 1;
+    }
+    if 32 < key.len() {
+        return 1;
+    }
+    if block.len() != 16 {
+        return 1;
+    }
+    if out.len() < 16 {
+        return 1;
+    }
+    let ctx = aes::expand(key);
+    aes::encrypt_block(&ctx, block, out);
+    0
+}
+
+// input XOR the key stream of a nonce of 12 bytes that starts at the block count.
+#[no_mangle]
+pub extern "C" fn sframe_test_ctr(
+    key: &[u8],
+    nonce: &[u8],
+    count: u32,
+    input: &[u8],
+    out: &mut [u8],
+) -> u32
+    ensures { λ r. ⌜ ((r ≡ 0) × (now (out .exit) ≡ ctr (now (key .entry)) (now (nonce .entry)) count (now (input .entry)) ++ drop (length (now (input .entry))) (now (out .entry)))) ⊎ ((r ≡ 1) × (now (out .exit) ≡ now (out .entry))) ⌝ }
+{
+    if key.len() % 16 != 0 {
+        return 1;
+    }
+    if key.len() < 16 {
+        return 1;
+    }
+    if 32 < key.len() {
+        return 1;
+    }
+    if nonce.len() != 12 {
+        return 1;
+    }
+    if MAX_BYTES < input.len() {
+        return 1;
+    }
+    if LAST_COUNT < count {
+        return 1;
+    }
+    let n = input.len();
+    if out.len() < n {
+        return 1;
+    }
+    let ctx = aes::expand(key);
+    gcm::counter::apply(&ctx, nonce, count, input, &mut out[..n]);
+    0
+}
+
+// GHASH under a hash key of 16 bytes, over the data filled up with zeros to whole blocks.
+#[no_mangle]
+pub extern "C" fn sframe_test_ghash(key: &[u8], input: &[u8], out: &mut [u8]) -> u32
+    ensures { λ r. ⌜ ((r ≡ 0) × (now (out .exit) ≡ bytes 16 (absorb (number 16 (now (key .entry))) 0 (now (input .entry))) ++ drop 16 (now (out .entry)))) ⊎ ((r ≡ 1) × (now (out .exit) ≡ now (out .entry))) ⌝ }
+{
+    if key.len() != 16 {
+        return 1;
+    }
+    if MAX_BYTES < input.len() {
+        return 1;
+    }
+    if out.len() < 16 {
+        return 1;
+    }
+    let t = gcm::ghash::expand(gcm::ghash::load(key));
+    let y = gcm::ghash::absorb(&t, gcm::ghash::Block { hi: 0, lo: 0 }, input, &input[..0]);
+    gcm::ghash::store(out, y);
+    0
+}
+
+// GCM encryption: the ciphertext, then the tag. The associated data are header and metadata.
+#[no_mangle]
+pub extern "C" fn sframe_test_gcm_seal(
+    key: &[u8],
+    nonce: &[u8],
+    header: &[u8],
+    metadata: &[u8],
+    plaintext: &[u8],
+    out: &mut [u8],
+) -> u32
+    ensures { λ r. ⌜ ((r ≡ 0) × (now (out .exit) ≡ gcmEncrypt (now (key .entry)) (now (nonce .entry)) (now (header .entry) ++ now (metadata .entry)) (now (plaintext .entry)) ++ drop (length (now (plaintext .entry)) + 16) (now (out .entry)))) ⊎ ((r ≡ 1) × (now (out .exit) ≡ now (out .entry))) ⌝ }
+{
+    if key.len() % 16 != 0 {
+        return 1;
+    }
+    if key.len() < 16 {
+        return 1;
+    }
+    if 32 < key.len() {
+        return 1;
+    }
+    if nonce.len() != 12 {
+        return 1;
+    }
+    if MAX_BYTES < header.len() {
+        return 1;
+    }
+    if MAX_BYTES < metadata.len() {
+        return 1;
+    }
+    if MAX_BYTES < plaintext.len() {
+        return 1;
+    }
+    let n = plaintext.len() + 16;
+    if out.len() < n {
+        return 1;
+    }
+    let ctx = aes::expand(key);
+    let t = gcm::hash_key(&ctx);
+    gcm::encrypt(&ctx, &t, nonce, header, metadata, plaintext, &mut out[..n]);
+    0
+}
+
+// The tag of GCM over a ciphertext.
+#[no_mangle]
+pub extern "C" fn sframe_test_gcm_tag(
+    key: &[u8],
+    nonce: &[u8],
+    header: &[u8],
+    metadata: &[u8],
+    ciphertext: &[u8],
+    out: &mut [u8],
+) -> u32
+    ensures { λ r. ⌜ ((r ≡ 0) × (now (out .exit) ≡ gcmTag (now (key .entry)) (now (nonce .entry)) (now (header .entry) ++ now (metadata .entry)) (now (ciphertext .entry)) ++ drop 16 (now (out .entry)))) ⊎ ((r ≡ 1) × (now (out .exit) ≡ now (out .entry))) ⌝ }
+{
+    if key.len() % 16 != 0 {
+        return 1;
+    }
+    if key.len() < 16 {
+        return 1;
+    }
+    if 32 < key.len() {
+        return 1;
+    }
+    if nonce.len() != 12 {
+        return 1;
+    }
+    if MAX_BYTES < header.len() {
+        return 1;
+    }
+    if MAX_BYTES < metadata.len() {
+        return 1;
+    }
+    if MAX_BYTES < ciphertext.len() {
+        return 1;
+    }
+    if out.len() < 16 {
+        return 1;
+    }
+    let ctx = aes::expand(key);
+    let t = gcm::hash_key(&ctx);
+    gcm::tag(
+        &ctx,
+        &t,
+        nonce,
+        header,
+        metadata,
+        ciphertext,
+        &mut out[..16],
+    );
+    0
+}
