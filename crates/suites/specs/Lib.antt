@@ -1,0 +1,3 @@
+pub mod Suites
+pub mod Derivation
+pub mod Aead
