@@ -1,0 +1,41 @@
+use mathlib.Core.Path.{_≡_, refl}
+use Prim.Native.Nat.{_-_, _%_, _≤_}
+use native.Mathlib.Omega.{arith}
+use lib.ListN.{length}
+use borrow.Author.Needs.{needs}
+use Rattle.store.proofs.Walk.{NoneFree, free-here, free-go, free-end}
+use Rattle.store.proofs.find_free.Statement.{statement}
+use Rattle.store.proofs.find_free.Tie as tie
+
+abbrev Inv-loop : tie.InvT-loop
+Inv-loop store at₀ at = (at ≤ length store) × (at % 80 ≡ 0) × NoneFree store at
+
+abbrev μ-loop : tie.MeasureT-loop
+μ-loop store at₀ at = length store - at
+
+loop-holds : tie.Need-loop-holds Inv-loop μ-loop
+loop-holds c = (omega arith, refl, λ j h. absurd (omega arith))
+
+returns : tie.Need-returns Inv-loop μ-loop
+returns c = free-here (c .before .before .before .before .before .before .args .store .now) (c .before .before .before .before .loop .at) (c .before .before .before .before .before .before .pre) (c .before .before .before .loop-test .taken) (c .before .before .before .before .loop .inv .1) _ (c .before .is-held .ensures) (c .if1 .taken) (c .before .before .before .before .loop .inv .2)
+
+loop-again : tie.Need-loop-again Inv-loop μ-loop
+loop-again c = (omega arith, omega arith, free-go (c .before .before .before .before .before .before .args .store .now) (c .before .before .before .before .loop .at) (c .before .before .before .before .before .before .pre) (c .before .before .before .loop-test .taken) (c .before .before .before .before .loop .inv .1) _ (c .before .is-held .ensures) (c .if1 .left) (c .before .before .before .before .loop .inv .2))
+
+returns-2 : tie.Need-returns-2 Inv-loop μ-loop
+returns-2 c = free-end (c .before .before .before .args .store .now) (c .before .loop .at) (c .before .before .before .pre) (omega arith) (c .before .loop .inv .2)
+
+pub find-free-spec : {M : Type 1} → statement M
+find-free-spec =
+    tie.close
+    (tie.spec
+    Inv-loop
+    μ-loop
+    loop-holds
+    (λ c. search needs)
+    (λ c κs. search needs)
+    returns
+    (λ c. search needs)
+    (λ c. search needs)
+    loop-again
+    returns-2)

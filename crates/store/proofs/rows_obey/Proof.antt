@@ -1,0 +1,44 @@
+use mathlib.Core.Path.{_≡_, refl}
+use Prim.Native.Nat.{_-_, _/_, _%_, _≤_}
+use native.Mathlib.Omega.{arith}
+use lib.ListN.{length, drop}
+use borrow.Author.Needs.{needs}
+use Rattle.store.proofs.Walk.{obey-stop, obey-go, obey-start, obey-end}
+use Rattle.store.specs.Store.{allObey}
+use Rattle.store.proofs.rows_obey.Statement.{statement}
+use Rattle.store.proofs.rows_obey.Tie as tie
+
+abbrev Inv-loop : tie.InvT-loop
+Inv-loop store at₀ at = (at ≤ length store) × (at % 80 ≡ 0) × (allObey (length store / 80) store ≡ allObey ((length store - at) / 80) (drop at store))
+
+abbrev μ-loop : tie.MeasureT-loop
+μ-loop store at₀ at = length store - at
+
+loop-holds : tie.Need-loop-holds Inv-loop μ-loop
+loop-holds c = (omega arith, refl, obey-start (c .before .args .store .now))
+
+returns : tie.Need-returns Inv-loop μ-loop
+returns c = obey-stop (c .before .before .before .before .before .before .args .store .now) (c .before .before .before .before .loop .at) _ (c .before .before .before .before .before .before .pre) (c .before .before .before .loop-test .taken) (c .before .before .before .before .loop .inv .1) refl _ (c .before .obeys-row .ensures) (c .if1 .taken) (c .before .before .before .before .loop .inv .2)
+
+loop-again : tie.Need-loop-again Inv-loop μ-loop
+loop-again c = (omega arith, omega arith, obey-go (c .before .before .before .before .before .before .args .store .now) (c .before .before .before .before .loop .at) _ (c .before .before .before .before .before .before .pre) (c .before .before .before .loop-test .taken) (c .before .before .before .before .loop .inv .1) refl _ (c .before .obeys-row .ensures) (c .if1 .left) (c .before .before .before .before .loop .inv .2))
+
+returns-2 : tie.Need-returns-2 Inv-loop μ-loop
+returns-2 c = obey-end (c .before .before .before .args .store .now) (c .before .loop .at) (omega arith) (c .before .loop .inv .2)
+
+pub rows-obey-spec : {M : Type 1} → statement M
+rows-obey-spec =
+    tie.close
+    (tie.spec
+    Inv-loop
+    μ-loop
+    loop-holds
+    (λ c. search needs)
+    (λ c. search needs)
+    (λ c. search needs)
+    (λ c. search needs)
+    (λ c κs. search needs)
+    returns
+    (λ c. search needs)
+    loop-again
+    returns-2)

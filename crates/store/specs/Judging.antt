@@ -1,0 +1,31 @@
+-- What the bytes of one record are tested for, step by step. That this amounts to obeying their row is proved.
+-- Assumes nothing.
+use mathlib.Core.Bool.{Bool}
+use mathlib.Core.List.{List, _∷_, _++_}
+use Prim.Native.Nat.{ℕ, _+_, _-_}
+use lib.Dec.{leb, eqb}
+use lib.ListN.{length, getD, take, drop, replicate}
+use Rattle.octets.specs.Octets.{number, both}
+use Rattle.header.specs.Header.{pick}
+use Rattle.store.specs.Record.{ceiling, sendingMark, receivingMark, retiredMark}
+use Rattle.store.specs.Suites.{isSuite, keySize}
+
+-- Byte 0 of a non-empty record.
+unfoldable pub holdingMark : ℕ → Bool
+holdingMark mark = both (leb sendingMark mark) (leb mark retiredMark)
+
+-- The highest next counter by byte 0.
+unfoldable pub counterLimit : ℕ → ℕ
+counterLimit mark = pick (eqb mark receivingMark) 0 ceiling
+
+-- Where the zeros begin that end a record, by byte 0 and suite.
+unfoldable pub zerosFrom : ℕ → ℕ → ℕ
+zerosFrom mark suite = pick (eqb mark retiredMark) 20 (32 + keySize suite)
+
+-- The suite is one, bytes 2 and 3 are zero, the next counter is not above its limit.
+unfoldable pub fieldsFit : List ℕ → Bool
+fieldsFit l = both (isSuite (getD l 1 0)) (both (eqb (getD l 2 0) 0) (both (eqb (getD l 3 0) 0) (leb (number 8 (drop 12 l)) (counterLimit (getD l 0 0)))))
+
+-- A sending record's bytes once it is retired: byte 0, then what stood before the salt, then zeros.
+unfoldable pub retiredRow : List ℕ → List ℕ
+retiredRow l = (retiredMark ∷ drop 1 (take 20 l)) ++ replicate (length l - 20) 0

@@ -1,0 +1,99 @@
+-- The records of the key store as values, and their form in bytes. Only the form in bytes knows where a field stands.
+-- Assumes nothing.
+use mathlib.Core.Bool.{Bool, true}
+use mathlib.Core.List.{List, [], _∷_, _++_}
+use Prim.Native.Nat.{ℕ, _-_, _^_}
+use lib.Dec.{leb, eqb}
+use lib.ListN.{length, getD, take, drop, replicate}
+use Rattle.octets.specs.Octets.{number, bytes, same, both}
+use Rattle.header.specs.Header.{pick}
+use Rattle.store.specs.Suites.{isSuite, keySize, saltSize}
+
+-- ---- sizes
+
+abbrev pub recordSize : ℕ
+recordSize = 80
+
+-- what a record has for a key, which is the longest Nk
+abbrev pub keyRoom : ℕ
+keyRoom = 48
+
+-- no counter reaches this
+abbrev pub ceiling : ℕ
+ceiling = 2 ^ 40
+
+-- ---- records
+
+-- A key for sending, with the counter of the next frame.
+pub record SendingKey : Type 0 where
+  pub suite : ℕ
+  pub kid : ℕ
+  pub counter : ℕ
+  pub salt : List ℕ
+  pub key : List ℕ
+
+-- A key for receiving.
+pub record ReceivingKey : Type 0 where
+  pub suite : ℕ
+  pub kid : ℕ
+  pub salt : List ℕ
+  pub key : List ℕ
+
+-- What is kept of a key for sending that was removed.
+pub record RetiredKey : Type 0 where
+  pub suite : ℕ
+  pub kid : ℕ
+  pub counter : ℕ
+
+pub data KeyRecord : Type 0 where
+  empty : KeyRecord
+  sending : SendingKey → KeyRecord
+  receiving : ReceivingKey → KeyRecord
+  retired : RetiredKey → KeyRecord
+
+-- ---- the form in bytes
+
+-- byte 0
+abbrev pub sendingMark : ℕ
+sendingMark = 1
+
+abbrev pub receivingMark : ℕ
+receivingMark = 2
+
+abbrev pub retiredMark : ℕ
+retiredMark = 3
+
+-- Mark, suite, two zeros, KID, next counter, salt, key, zeros up to the record's end.
+unfoldable pub row : ℕ → ℕ → ℕ → ℕ → List ℕ → List ℕ → List ℕ
+row mark suite kid counter salt key =
+    (mark ∷ suite ∷ 0 ∷ 0 ∷ []) ++ (bytes 8 kid ++ (bytes 8 counter ++ (salt ++ (key ++ replicate (keyRoom - length key) 0))))
+
+unfoldable pub encode : KeyRecord → List ℕ
+encode empty = replicate recordSize 0
+encode (sending r) = row sendingMark (r .suite) (r .kid) (r .counter) (r .salt) (r .key)
+encode (receiving r) = row receivingMark (r .suite) (r .kid) 0 (r .salt) (r .key)
+encode (retired r) = row retiredMark (r .suite) (r .kid) (r .counter) (replicate saltSize 0) []
+
+-- A record's bytes as a record; bytes with no mark that is known count as empty.
+unfoldable pub decode : List ℕ → KeyRecord
+decode l =
+    let mark = getD l 0 0 in
+    let suite = getD l 1 0 in
+    let kid = number 8 (drop 4 l) in
+    let counter = number 8 (drop 12 l) in
+    let salt = take saltSize (drop 20 l) in
+    let key = take (keySize suite) (drop 32 l) in
+    pick (eqb mark sendingMark) (sending (record { suite = suite; kid = kid; counter = counter; salt = salt; key = key }))
+    (pick (eqb mark receivingMark) (receiving (record { suite = suite; kid = kid; salt = salt; key = key }))
+    (pick (eqb mark retiredMark) (retired (record { suite = suite; kid = kid; counter = counter })) empty))
+
+-- A record's values are in range.
+unfoldable pub fits : KeyRecord → Bool
+fits empty = true
+fits (sending r) = both (isSuite (r .suite)) (leb (r .counter) ceiling)
+fits (receiving r) = isSuite (r .suite)
+fits (retired r) = both (isSuite (r .suite)) (leb (r .counter) ceiling)
+
+-- A record's bytes obey their row: they are those of the record they are read as, and its values are in range.
+unfoldable pub obeys : List ℕ → Bool
+obeys l = both (same (encode (decode l)) l) (fits (decode l))
