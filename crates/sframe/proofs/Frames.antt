@@ -1,0 +1,216 @@
+-- From what every list of calls keeps true to the claims about its sealed frames. Assumes nothing.
+use mathlib.Core.Path.{_≡_, refl, sym, _∙_, ap}
+use mathlib.Core.List.{List, [], _∷_, _++_, append-assoc}
+use Prim.Native.Nat.{ℕ, zero, suc, _+_, _^_, _<_, _≤_}
+use native.Mathlib.Omega.{arith}
+use lib.ListN.{length, take, drop, length-append, take-append-drop}
+use lib.Seq.{take-length}
+use Rattle.octets.specs.Octets.{Octets, bytes}
+use Rattle.octets.proofs.Laws.{octets-append, bytes-octets}
+use Rattle.header.specs.Answers.{readNumber}
+use Rattle.header.specs.Header.{header, config, width}
+use Rattle.header.specs.declared.Reading.the-variants.{Header}
+use Rattle.header.proofs.Laws.{field-bits, header-begins}
+use Rattle.store.specs.Cipher.{Cipher}
+use Rattle.store.proofs.Basics.{Two, yes′, no′, two}
+use Rattle.store.proofs.CipherLaws.{Laws, Usable}
+use Rattle.sframe.specs.Calls.{opening}
+use Rattle.sframe.specs.Frame.{frame}
+use Rattle.sframe.specs.Promises.{kidOf, ctrOf, Begins, isSender, senders, OpenedTo, keyFrom, saltFrom, nonceOf, Holds, Frame, Pair, Kept}
+use Rattle.sframe.specs.Session.{Adding, Sealing, Event, added, sealed, other}
+use Rattle.sframe.proofs.Ledger.{Each, Fact, fact-reads, fact-kid, fact-ctr, Below, Proper}
+use Rattle.store.specs.Suites.{tagSize}
+use Rattle.sframe.proofs.Opens.{opens-exactly}
+
+-- ---- a place in the events
+
+pub each-at : (P : Sealing → List Event → Type 0) (later earlier : List Event) (x : Sealing) → Each P (later ++ (sealed x ∷ earlier)) → P x earlier
+each-at P [] earlier x p = p .0
+each-at P (added a ∷ later) earlier x p = each-at P later earlier x p
+each-at P (sealed y ∷ later) earlier x p = each-at P later earlier x (p .1)
+each-at P (other ∷ later) earlier x p = each-at P later earlier x p
+
+pub each-after : (P : Sealing → List Event → Type 0) (later earlier : List Event) (x : Sealing) → Each P (later ++ (sealed x ∷ earlier)) → Each P earlier
+each-after P [] earlier x p = p .1
+each-after P (added a ∷ later) earlier x p = each-after P later earlier x p
+each-after P (sealed y ∷ later) earlier x p = each-after P later earlier x (p .1)
+each-after P (other ∷ later) earlier x p = each-after P later earlier x p
+
+senders-append : (kid : ℕ) (l m : List Event) → senders kid (l ++ m) ≡ senders kid l ++ senders kid m
+unfolding senders
+senders-append kid [] m = refl
+senders-append kid (added a ∷ l) m = by (two (isSender kid a (a .role))) (senders-append kid l m)
+  where
+    by : Two (isSender kid a (a .role)) → senders kid (l ++ m) ≡ senders kid l ++ senders kid m → senders kid (added a ∷ (l ++ m)) ≡ senders kid (added a ∷ l) ++ senders kid m
+    by (yes′ t) e = rw t (ap (λ (r : List Adding). a ∷ r) e)
+    by (no′ t) e = rw t e
+senders-append kid (sealed x ∷ l) m = senders-append kid l m
+senders-append kid (other ∷ l) m = senders-append kid l m
+
+-- a list of one that ends in b is b
+one-is : (l : List Adding) (a b : Adding) → l ++ (b ∷ []) ≡ a ∷ [] → b ≡ a
+one-is [] a b e = cc
+one-is (c ∷ l) a b e = absurd (omega (arith, simp length-append at (ap length e)))
+
+-- ---- the bytes of a frame
+
+header-octets : (kid ctr : ℕ) → kid < 2 ^ 64 → ctr < 2 ^ 64 → Octets (header kid ctr)
+unfolding header config
+header-octets kid ctr hk hc = first
+  where
+    rest : Octets (bytes (width kid) kid ++ bytes (width ctr) ctr)
+    rest = octets-append (bytes (width kid) kid) (bytes (width ctr) ctr) (bytes-octets (width kid) kid) (bytes-octets (width ctr) ctr)
+
+    first : Octets (header kid ctr)
+    first zero =
+        let a = field-bits kid hk in
+        let b = field-bits ctr hc in
+        omega (arith, a .flag-bit, a .code-bits, b .flag-bit, b .code-bits)
+    first (suc i) = rest i
+
+module _ (cipher : Cipher) (laws : Laws cipher) (x : Sealing) (earlier : List Event) (f : Fact cipher x earlier) where
+  salt-size : length (saltFrom cipher (f .add)) ≡ 12
+  salt-size = laws .salt-length (f .add .suite) (f .add .base) (f .add .kid) (f .known)
+
+  salt-bytes : Octets (saltFrom cipher (f .add))
+  salt-bytes = laws .salt-octets (f .add .suite) (f .add .base) (f .add .kid) (f .known) (f .base-octets)
+
+  ctr-fits : f .ctr < 2 ^ 64
+  ctr-fits = omega (arith, f .ctr-below)
+
+  usable : Usable (f .add .suite) (keyFrom cipher (f .add)) (cipher .nonce (saltFrom cipher (f .add)) (f .ctr)) (header (f .kid) (f .ctr) ++ x .metadata)
+  usable = record {
+    known = f .known;
+    key-length = laws .key-length (f .add .suite) (f .add .base) (f .add .kid) (f .known);
+    key-octets = laws .key-octets (f .add .suite) (f .add .base) (f .add .kid) (f .known) (f .base-octets);
+    nonce-length = laws .nonce-length (saltFrom cipher (f .add)) (f .ctr) salt-size;
+    nonce-octets = laws .nonce-octets (saltFrom cipher (f .add)) (f .ctr) salt-size salt-bytes;
+    aad-octets = octets-append (header (f .kid) (f .ctr)) (x .metadata) (header-octets (f .kid) (f .ctr) (f .kid-below) ctr-fits) (f .metadata-octets);
+  }
+
+  -- what stands after the header
+  body : List ℕ
+  body = cipher .encrypt (f .add .suite) (keyFrom cipher (f .add)) (cipher .nonce (saltFrom cipher (f .add)) (f .ctr)) (header (f .kid) (f .ctr) ++ x .metadata) (x .plaintext)
+
+  parts : x .frame ≡ header (f .kid) (f .ctr) ++ body
+  unfolding frame body
+  parts = f .frame-is
+
+  frame-octets : Octets (x .frame)
+  unfolding body
+  frame-octets =
+      rw parts (octets-append (header (f .kid) (f .ctr)) body (header-octets (f .kid) (f .ctr) (f .kid-below) ctr-fits)
+      (laws .encrypt-octets (f .add .suite) (keyFrom cipher (f .add)) (cipher .nonce (saltFrom cipher (f .add)) (f .ctr)) (header (f .kid) (f .ctr) ++ x .metadata) (x .plaintext) usable (f .plaintext-octets)))
+
+  body-length : length (x .frame) ≡ length (header (f .kid) (f .ctr)) + (length (x .plaintext) + tagSize (f .add .suite))
+  unfolding body
+  body-length =
+      ap length parts ∙ length-append (header (f .kid) (f .ctr)) body
+      ∙ ap (λ (k : ℕ). length (header (f .kid) (f .ctr)) + k)
+      (laws .encrypt-length (f .add .suite) (keyFrom cipher (f .add)) (cipher .nonce (saltFrom cipher (f .add)) (f .ctr)) (header (f .kid) (f .ctr) ++ x .metadata) (x .plaintext) usable (f .plaintext-octets))
+
+  -- ---- one frame
+
+  whole : x .frame ≡ frame cipher (f .add .suite) (keyFrom cipher (f .add)) (saltFrom cipher (f .add)) (kidOf x) (ctrOf x) (x .metadata) (x .plaintext)
+  whole =
+      f .frame-is
+      ∙ (λ i. frame cipher (f .add .suite) (keyFrom cipher (f .add)) (saltFrom cipher (f .add)) (sym (fact-kid cipher x earlier f) i) (sym (fact-ctr cipher x earlier f) i) (x .metadata) (x .plaintext))
+
+  pub frame-opens : (s room : List ℕ) → Holds s (record { suite = f .add .suite; kid = kidOf x; salt = saltFrom cipher (f .add); key = keyFrom cipher (f .add) })
+      → length (x .plaintext) ≤ length room → OpenedTo (x .plaintext) (opening cipher s (x .metadata) (x .frame) room)
+  frame-opens s room h r =
+      let n = body-length in
+      opens-exactly cipher laws s (x .metadata) (x .frame) room (record { suite = f .add .suite; kid = kidOf x; salt = saltFrom cipher (f .add); key = keyFrom cipher (f .add) }) (ctrOf x)
+      (record {
+        held = h;
+        metadata-octets = f .metadata-octets;
+        bytes-octets = frame-octets;
+        header-length = length (header (f .kid) (f .ctr));
+        header-is =
+            fact-reads cipher x earlier f
+            ∙ (λ i. Header (record { 0 = sym (fact-kid cipher x earlier f) i }) (record { 0 = sym (fact-ctr cipher x earlier f) i }) (length (header (f .kid) (f .ctr))));
+        plaintext-most = omega (arith, f .plaintext-most);
+        metadata-most = f .metadata-most;
+        room-enough = omega arith;
+      }) .yields (record { plaintext = x .plaintext; octets = f .plaintext-octets; is-frame = whole })
+
+  pub frame-holds : Frame cipher x earlier
+  frame-holds = record {
+    header-read = ap readNumber (fact-reads cipher x earlier f);
+    add = f .add;
+    only = ap (λ (k : ℕ). senders k earlier) (fact-kid cipher x earlier f) ∙ f .only;
+    its-kid = f .add-kid ∙ sym (fact-kid cipher x earlier f);
+    sealed-under = whole;
+    opens = frame-opens;
+  }
+
+-- ---- two frames
+
+module _ (cipher : Cipher) (laws : Laws cipher) (x y : Sealing) (before-x before-y : List Event) (f : Fact cipher x before-x) (g : Fact cipher y before-y) where
+  -- frames of which one begins the other carry the same KID and counter
+  same-start : (rest : List ℕ) → y .frame ≡ x .frame ++ rest → (kidOf x ≡ kidOf y) × (ctrOf x ≡ ctrOf y)
+  same-start rest e =
+      let b = header-begins (f .kid) (f .ctr) (g .kid) (g .ctr) (body cipher laws x before-x f ++ rest) (body cipher laws y before-y g) (f .kid-below) (ctr-fits cipher laws x before-x f) (g .kid-below) (ctr-fits cipher laws y before-y g)
+      (sym (append-assoc (header (f .kid) (f .ctr)) (body cipher laws x before-x f) rest)
+      ∙ ap (λ (l : List ℕ). l ++ rest) (sym (parts cipher laws x before-x f))
+      ∙ sym e
+      ∙ parts cipher laws y before-y g)
+      in
+      (fact-kid cipher x before-x f ∙ b .0 ∙ sym (fact-kid cipher y before-y g), fact-ctr cipher x before-x f ∙ b .1 ∙ sym (fact-ctr cipher y before-y g))
+
+  begins-same : Begins x y → (kidOf x ≡ kidOf y) × (ctrOf x ≡ ctrOf y)
+  begins-same e =
+      same-start (drop (length (x .frame)) (y .frame))
+      (sym (take-append-drop (length (x .frame)) (y .frame)) ∙ ap (λ (l : List ℕ). l ++ drop (length (x .frame)) (y .frame)) e)
+
+-- y was sealed before x
+module _ (cipher : Cipher) (laws : Laws cipher) (x y : Sealing) (between earlier : List Event)
+    (f : Fact cipher x (between ++ (sealed y ∷ earlier))) (g : Fact cipher y earlier) (below : Below x y earlier) where
+  never-same : kidOf x ≡ kidOf y → ctrOf x ≡ ctrOf y → ⊥
+  never-same k c = omega (arith, below (sym k))
+
+  one-add : kidOf x ≡ kidOf y → (a b : Adding) → senders (kidOf x) (between ++ (sealed y ∷ earlier)) ≡ a ∷ [] → senders (kidOf y) earlier ≡ b ∷ [] → b ≡ a
+  unfolding senders
+  one-add k a b p q =
+      one-is (senders (kidOf x) between) a b
+      (ap (λ (l : List Adding). senders (kidOf x) between ++ l) (sym q ∙ ap (λ (j : ℕ). senders j earlier) (sym k))
+      ∙ sym (senders-append (kidOf x) between (sealed y ∷ earlier))
+      ∙ p)
+
+  the-add : (a : Adding) → senders (kidOf x) (between ++ (sealed y ∷ earlier)) ≡ a ∷ [] → f .add ≡ a
+  the-add a p = one-is [] a (f .add) (sym (f .only) ∙ ap (λ (k : ℕ). senders k (between ++ (sealed y ∷ earlier))) (sym (fact-kid cipher x (between ++ (sealed y ∷ earlier)) f)) ∙ p)
+
+  nonces : kidOf x ≡ kidOf y → (a b : Adding) → senders (kidOf x) (between ++ (sealed y ∷ earlier)) ≡ a ∷ [] → senders (kidOf y) earlier ≡ b ∷ []
+      → nonceOf cipher a x ≡ nonceOf cipher b y → ⊥
+  nonces k a b p q e =
+      let ba = one-add k a b p q in
+      let fa = the-add a p in
+      let lx : ctrOf x < 2 ^ 64 = rw (fact-ctr cipher x (between ++ (sealed y ∷ earlier)) f) (ctr-fits cipher laws x (between ++ (sealed y ∷ earlier)) f) in
+      let ly : ctrOf y < 2 ^ 64 = rw (fact-ctr cipher y earlier g) (ctr-fits cipher laws y earlier g) in
+      never-same k (laws .nonce-apart (saltFrom cipher (f .add)) (ctrOf x) (ctrOf y)
+      (salt-size cipher laws x (between ++ (sealed y ∷ earlier)) f)
+      (salt-bytes cipher laws x (between ++ (sealed y ∷ earlier)) f) lx ly
+      (ap (λ (d : Adding). nonceOf cipher d x) fa ∙ e ∙ ap (λ (d : Adding). nonceOf cipher d y) (ba ∙ sym fa)))
+
+  pub pair-holds : Pair cipher x (between ++ (sealed y ∷ earlier)) y earlier
+  pair-holds = record {
+    pairs-apart = never-same;
+    nonces-apart = nonces;
+    not-equal = λ e. apart (ap (λ (n : ℕ). take n (y .frame)) (ap length e) ∙ take-length (y .frame) ∙ sym e);
+    not-begins = apart;
+    not-begun = λ e. let b = begins-same cipher laws y x earlier (between ++ (sealed y ∷ earlier)) g f e in never-same (sym (b .0)) (sym (b .1));
+  }
+    where
+      apart : Begins x y → ⊥
+      apart e = let b = begins-same cipher laws x y (between ++ (sealed y ∷ earlier)) earlier f g e in never-same (b .0) (b .1)
+
+module _ (cipher : Cipher) (laws : Laws cipher) where
+  pub kept : (log : List Event) → Each (Proper cipher) log → Kept cipher log
+  kept log p = record {
+    every-frame = λ later earlier x e. frame-holds cipher laws x earlier (each-at (Proper cipher) later earlier x (rw e at p) .0);
+    every-pair = λ later between earlier x y e.
+        let l = between ++ (sealed y ∷ earlier) in
+        let px = each-at (Proper cipher) later l x (rw e at p) in
+        let py = each-at (Proper cipher) between earlier y (each-after (Proper cipher) later l x (rw e at p)) in
+        pair-holds cipher laws x y between earlier (px .0) (py .0) (each-at (Below x) between earlier y (px .1));
+  }

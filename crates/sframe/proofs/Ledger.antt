@@ -1,0 +1,333 @@
+-- What every list of calls keeps true of the store and of the events so far. Assumes nothing.
+use mathlib.Core.Path.{_≡_, refl, sym, _∙_, ap}
+use mathlib.Core.Bool.{Bool, true}
+use mathlib.Core.List.{List, [], _∷_}
+use Prim.Native.Nat.{ℕ, _/_, _^_, _<_, _≤_}
+use native.Mathlib.Omega.{arith}
+use lib.Dec.{eqb}
+use lib.ListN.{length, take, replicate}
+use borrow.Author.Tests.{eq-eqb, ne-eqb, eqb-true, eqb-false}
+use Rattle.octets.specs.Octets.{Octets}
+use Rattle.header.specs.Answers.{readKid, readCtr}
+use Rattle.header.specs.Header.{pick, header, readHeader}
+use Rattle.header.specs.declared.Reading.the-variants.{Header}
+use Rattle.header.proofs.Laws.{read-header}
+use Rattle.store.specs.Answers.{Outcome}
+use Rattle.store.specs.Calls.{make, add, remove, added as addedRecord}
+use Rattle.store.specs.Cipher.{Cipher}
+use Rattle.store.specs.Record.{recordSize, ceiling, SendingKey, ReceivingKey, KeyRecord, empty, sending, receiving, retired}
+use Rattle.store.specs.Table.{get, put, clear, fill}
+use Rattle.store.specs.declared.Role.{Role}
+use Rattle.store.specs.declared.Role.the-variants.{Sending, Receiving}
+use Rattle.store.proofs.Basics.{Two, yes′, no′, two, settled-store}
+use Rattle.store.proofs.CipherLaws.{Laws}
+use Rattle.store.proofs.Keys.{make-stored, empties-get, kept, AddStep, add-step, RemoveStep, remove-step}
+use Rattle.store.proofs.Stores.{Stored, Change}
+use Rattle.sframe.specs.Calls.{maxPlaintext, maxMetadata, counterOf, seal, openAt, opening}
+use Rattle.sframe.specs.Frame.{frame}
+use Rattle.sframe.specs.Promises.{kidOf, ctrOf, senders, keyFrom, saltFrom}
+use Rattle.sframe.specs.Session.{Call, Add, Remove, Seal, Open, Typed, AllTyped, Adding, Sealing, Event, added, sealed, other, event, Session, outcome, step, run, start}
+use Rattle.store.specs.Suites.{isSuite}
+use Rattle.sframe.proofs.Seals.{next, Sealed, SealStep, seal-step}
+
+-- ---- the words of it
+
+-- P of each sealed frame and the events before it
+abbrev pub Each : (Sealing → List Event → Type 0) → List Event → Type 0
+Each P [] = Unit {0}
+Each P (added a ∷ log) = Each P log
+Each P (sealed x ∷ log) = P x log × Each P log
+Each P (other ∷ log) = Each P log
+
+pub each-map : (P Q : Sealing → List Event → Type 0) → ((x : Sealing) (l : List Event) → P x l → Q x l) → (log : List Event) → Each P log → Each Q log
+each-map P Q f [] p = tt
+each-map P Q f (added a ∷ log) p = each-map P Q f log p
+each-map P Q f (sealed x ∷ log) p = (f x log (p .0), each-map P Q f log (p .1))
+each-map P Q f (other ∷ log) p = each-map P Q f log p
+
+-- a frame that was sealed, and under which Add
+pub record Fact (cipher : Cipher) (x : Sealing) (earlier : List Event) : Type 0 where
+  pub kid : ℕ
+  pub ctr : ℕ
+  pub add : Adding
+  pub kid-below : kid < 2 ^ 64
+  pub ctr-below : ctr < ceiling
+  pub only : senders kid earlier ≡ add ∷ []
+  pub add-kid : add .kid ≡ kid
+  pub known : isSuite (add .suite) ≡ true
+  pub base-octets : Octets (add .base)
+  pub frame-is : x .frame ≡ frame cipher (add .suite) (keyFrom cipher add) (saltFrom cipher add) kid ctr (x .metadata) (x .plaintext)
+  pub metadata-octets : Octets (x .metadata)
+  pub plaintext-octets : Octets (x .plaintext)
+  pub plaintext-most : length (x .plaintext) ≤ maxPlaintext
+  pub metadata-most : length (x .metadata) ≤ maxMetadata
+
+pub frame-reads : (cipher : Cipher) (suite : ℕ) (key salt : List ℕ) (kid ctr : ℕ) (metadata plaintext : List ℕ) → kid < 2 ^ 64 → ctr < ceiling
+    → readHeader (frame cipher suite key salt kid ctr metadata plaintext) ≡ Header (record { 0 = kid }) (record { 0 = ctr }) (length (header kid ctr))
+unfolding frame
+frame-reads cipher suite key salt kid ctr metadata plaintext h c = read-header kid ctr _ h (omega arith)
+
+module _ (cipher : Cipher) (x : Sealing) (earlier : List Event) (f : Fact cipher x earlier) where
+  pub fact-reads : readHeader (x .frame) ≡ Header (record { 0 = f .kid }) (record { 0 = f .ctr }) (length (header (f .kid) (f .ctr)))
+  fact-reads = ap readHeader (f .frame-is) ∙ frame-reads cipher _ _ _ (f .kid) (f .ctr) _ _ (f .kid-below) (f .ctr-below)
+
+  pub fact-kid : kidOf x ≡ f .kid
+  unfolding kidOf
+  fact-kid = ap readKid fact-reads
+
+  pub fact-ctr : ctrOf x ≡ f .ctr
+  unfolding ctrOf
+  fact-ctr = ap readCtr fact-reads
+
+-- a later frame under one KID has the higher counter
+abbrev pub Below : Sealing → Sealing → List Event → Type 0
+Below x y l = kidOf y ≡ kidOf x → ctrOf y < ctrOf x
+
+abbrev pub Proper : Cipher → Sealing → List Event → Type 0
+Proper cipher x earlier = Fact cipher x earlier × Each (Below x) earlier
+
+-- the table's next counter is above a frame's own
+abbrev pub Covered : List KeyRecord → Sealing → List Event → Type 0
+Covered rs x l = ctrOf x < counterOf (get (kidOf x) rs)
+
+-- the Adds for sending of a KID, beside the record that holds it
+pub record Source (cipher : Cipher) (r : SendingKey) (l : List Adding) : Type 0 where
+  pub add : Adding
+  pub only : l ≡ add ∷ []
+  pub kid-is : add .kid ≡ r .kid
+  pub suite-is : add .suite ≡ r .suite
+  pub salt-is : saltFrom cipher add ≡ r .salt
+  pub key-is : keyFrom cipher add ≡ r .key
+  pub base-octets : Octets (add .base)
+
+abbrev pub Entry : Cipher → KeyRecord → List Adding → Type 0
+Entry cipher empty l = l ≡ []
+Entry cipher (sending r) l = Source cipher r l
+Entry cipher (receiving r) l = l ≡ []
+Entry cipher (retired r) l = (a : Adding) × (l ≡ a ∷ [])
+
+pub record Account (cipher : Cipher) (rs : List KeyRecord) (log : List Event) : Type 0 where
+  pub ledger : (kid : ℕ) → Entry cipher (get kid rs) (senders kid log)
+  pub frames : Each (Proper cipher) log
+  pub covered : Each (Covered rs) log
+
+pub record Inv (cipher : Cipher) (h : Session) : Type 0 where
+  pub table : List KeyRecord
+  pub is-stored : Stored (h .store) table
+  pub account : Account cipher table (h .log)
+
+-- ---- one record changes
+
+module _ (cipher : Cipher) (kid : ℕ) (new : KeyRecord) (rs rs′ : List KeyRecord) (c : Change kid new rs rs′) where
+  ledger-change : (log log′ : List Event) → ((k : ℕ) → Entry cipher (get k rs) (senders k log)) → ((k : ℕ) → (k ≡ kid → ⊥) → senders k log′ ≡ senders k log) → Entry cipher new (senders kid log′)
+      → (k : ℕ) → Entry cipher (get k rs′) (senders k log′)
+  ledger-change log log′ l p e k = by (two (eqb k kid))
+    where
+      by : Two (eqb k kid) → Entry cipher (get k rs′) (senders k log′)
+      by (yes′ t) = rw (eqb-true k kid t, c .at-kid) e
+      by (no′ t) = let d = eqb-false k kid t in rw (c .elsewhere k d, p k d) (l k)
+
+  counters : counterOf (get kid rs) ≤ counterOf new → (k : ℕ) → counterOf (get k rs) ≤ counterOf (get k rs′)
+  counters h k = by (two (eqb k kid))
+    where
+      by : Two (eqb k kid) → counterOf (get k rs) ≤ counterOf (get k rs′)
+      by (yes′ t) = rw (eqb-true k kid t, c .at-kid) h
+      by (no′ t) = rw (c .elsewhere k (eqb-false k kid t)) (omega arith)
+
+  covered-change : counterOf (get kid rs) ≤ counterOf new → (log : List Event) → Each (Covered rs) log → Each (Covered rs′) log
+  covered-change h log p = each-map (Covered rs) (Covered rs′) (λ x l q. omega (arith, q, counters h (kidOf x))) log p
+
+-- ---- each call
+
+senders-other : (kid : ℕ) (log : List Event) → senders kid (other ∷ log) ≡ senders kid log
+unfolding senders
+senders-other kid log = refl
+
+senders-sealed : (kid : ℕ) (x : Sealing) (log : List Event) → senders kid (sealed x ∷ log) ≡ senders kid log
+unfolding senders
+senders-sealed kid x log = refl
+
+abbrev sealingOf : List ℕ → List ℕ → Outcome → Sealing
+sealingOf metadata plaintext o = record { metadata = metadata; plaintext = plaintext; frame = take (o .written) (o .room) }
+
+abbrev addingOf : Role → ℕ → ℕ → List ℕ → Adding
+addingOf role kid suite base = record { role = role; kid = kid; suite = suite; base = base }
+
+-- a call that changes nothing
+pass-by : (cipher : Cipher) (rs : List KeyRecord) (log : List Event) → Account cipher rs log → Account cipher rs (other ∷ log)
+pass-by cipher rs log a = record { ledger = λ k. rw (senders-other k log) (a .ledger k); frames = a .frames; covered = a .covered }
+
+module _ (cipher : Cipher) (rs : List KeyRecord) (log : List Event) (a : Account cipher rs log) (kid : ℕ) where
+  -- ---- Add
+
+  module _ (suite : ℕ) (base : List ℕ) (ob : Octets base) (rs′ : List KeyRecord) (free : get kid rs ≡ empty) where
+    senders-none : senders kid log ≡ []
+    senders-none = rw free at (a .ledger kid)
+
+    added-account : (role : Role) → Change kid (addedRecord cipher role kid suite base) rs rs′ → Account cipher rs′ (added (addingOf role kid suite base) ∷ log)
+    unfolding addedRecord senders
+    added-account Sending c = record {
+      ledger =
+          ledger-change cipher kid (addedRecord cipher Sending kid suite base) rs rs′ c log (added (addingOf Sending kid suite base) ∷ log) (a .ledger)
+          (λ k d. ap (λ (t : Bool). pick t (addingOf Sending kid suite base ∷ senders k log) (senders k log)) (ne-eqb kid k (λ e. d (sym e))))
+          (record {
+            add = addingOf Sending kid suite base;
+            only =
+                ap (λ (t : Bool). pick t (addingOf Sending kid suite base ∷ senders kid log) (senders kid log)) (eq-eqb kid kid refl)
+                ∙ ap (λ (l : List Adding). addingOf Sending kid suite base ∷ l) senders-none;
+            kid-is = refl;
+            suite-is = refl;
+            salt-is = refl;
+            key-is = refl;
+            base-octets = ob;
+          });
+      frames = a .frames;
+      covered = covered-change cipher kid (addedRecord cipher Sending kid suite base) rs rs′ c (rw free (omega arith)) log (a .covered);
+    }
+    added-account Receiving c = record {
+      ledger =
+          ledger-change cipher kid (addedRecord cipher Receiving kid suite base) rs rs′ c log (added (addingOf Receiving kid suite base) ∷ log) (a .ledger) (λ k d. refl) senders-none;
+      frames = a .frames;
+      covered = covered-change cipher kid (addedRecord cipher Receiving kid suite base) rs rs′ c (rw free (omega arith)) log (a .covered);
+    }
+
+  -- ---- Remove
+
+  freed-account : (r : ReceivingKey) (rs′ : List KeyRecord) → get kid rs ≡ receiving r → Change kid empty rs rs′ → Account cipher rs′ (other ∷ log)
+  freed-account r rs′ g c =
+      pass-by cipher rs′ log (record {
+        ledger = ledger-change cipher kid empty rs rs′ c log log (a .ledger) (λ k d. refl) (rw g at (a .ledger kid));
+        frames = a .frames;
+        covered = covered-change cipher kid empty rs rs′ c (rw g (omega arith)) log (a .covered);
+      })
+
+  closed-account : (r : SendingKey) (rs′ : List KeyRecord) → get kid rs ≡ sending r → Change kid (kept r) rs rs′ → Account cipher rs′ (other ∷ log)
+  closed-account r rs′ g c =
+      let e : Source cipher r (senders kid log) = rw g at (a .ledger kid) in
+      pass-by cipher rs′ log (record {
+        ledger = ledger-change cipher kid (kept r) rs rs′ c log log (a .ledger) (λ k d. refl) (e .add, e .only);
+        frames = a .frames;
+        covered = covered-change cipher kid (kept r) rs rs′ c (rw g (omega arith)) log (a .covered);
+      })
+
+  -- ---- Seal
+
+  module _ (metadata plaintext : List ℕ) (o : Outcome) (r : SendingKey) (om : Octets metadata) (op : Octets plaintext) (p : Sealed cipher rs kid metadata plaintext o r) where
+    source : Source cipher r (senders kid log)
+    source = rw (p .found) at (a .ledger kid)
+
+    sealed-fact : Fact cipher (sealingOf metadata plaintext o) log
+    sealed-fact = record {
+      kid = kid;
+      ctr = r .counter;
+      add = source .add;
+      kid-below = rw (p .kid-is) at (p .fit .0 .kid-below);
+      ctr-below = p .counter-below;
+      only = source .only;
+      add-kid = source .kid-is ∙ p .kid-is;
+      known = ap (isSuite) (source .suite-is) ∙ p .fit .0 .known;
+      base-octets = source .base-octets;
+      frame-is = p .frame-is ∙ (λ i. frame cipher (sym (source .suite-is) i) (sym (source .key-is) i) (sym (source .salt-is) i) kid (r .counter) metadata plaintext);
+      metadata-octets = om;
+      plaintext-octets = op;
+      plaintext-most = p .plaintext-most;
+      metadata-most = p .metadata-most;
+    }
+
+    x-kid : kidOf (sealingOf metadata plaintext o) ≡ kid
+    unfolding sealed-fact
+    x-kid = fact-kid cipher (sealingOf metadata plaintext o) log sealed-fact
+
+    x-ctr : ctrOf (sealingOf metadata plaintext o) ≡ r .counter
+    unfolding sealed-fact
+    x-ctr = fact-ctr cipher (sealingOf metadata plaintext o) log sealed-fact
+
+    sealed-below : (y : Sealing) (l : List Event) → Covered rs y l → Below (sealingOf metadata plaintext o) y l
+    sealed-below y l q e =
+        let same-kid : kidOf y ≡ kid = e ∙ x-kid in
+        let c : counterOf (get (kidOf y) rs) ≡ r .counter = ap (λ (k : ℕ). counterOf (get k rs)) same-kid ∙ ap counterOf (p .found) in
+        rw x-ctr (omega (arith, q))
+
+    sealed-account : Account cipher (put kid (next r) rs) (sealed (sealingOf metadata plaintext o) ∷ log)
+    unfolding senders
+    sealed-account = record {
+      ledger =
+          ledger-change cipher kid (next r) rs (put kid (next r) rs) (p .change) log (sealed (sealingOf metadata plaintext o) ∷ log) (a .ledger) (λ k d. refl)
+          (record {
+            add = source .add;
+            only = source .only;
+            kid-is = source .kid-is;
+            suite-is = source .suite-is;
+            salt-is = source .salt-is;
+            key-is = source .key-is;
+            base-octets = source .base-octets;
+          });
+      frames = ((sealed-fact, each-map (Covered rs) (Below (sealingOf metadata plaintext o)) sealed-below log (a .covered)), a .frames);
+      covered = (
+        rw (x-kid, x-ctr, p .change .at-kid) (omega arith),
+        covered-change cipher kid (next r) rs (put kid (next r) rs) (p .change) (rw (p .found) (omega arith)) log (a .covered),
+      );
+    }
+
+-- ---- every list
+
+pub open-store : (cipher : Cipher) (s metadata bytes room : List ℕ) → opening cipher s metadata bytes room .store ≡ s
+unfolding opening openAt
+open-store cipher s metadata bytes room = settled-store _ s room _ refl
+
+-- the event of a call is known once it is known whether the call answered 0
+happened : (n : ℕ) (e : Event) → n ≡ 0 → pick (eqb n 0) e other ≡ e
+happened n e z = rw (eq-eqb n 0 z)
+
+passed-by : (n : ℕ) (e : Event) → (n ≡ 0 → ⊥) → pick (eqb n 0) e other ≡ other
+passed-by n e d = rw (ne-eqb n 0 d)
+
+module _ (cipher : Cipher) (h : Session) (i : Inv cipher h) where
+  -- an event that is e, and a store that is rs in bytes
+  goes-on : (s : List ℕ) (rs : List KeyRecord) (e′ e : Event) → Stored s rs → e′ ≡ e → Account cipher rs (e ∷ h .log) → Inv cipher (record { store = s; log = e′ ∷ h .log })
+  goes-on s rs e′ e st p acc = record { table = rs; is-stored = st; account = rw p acc }
+
+  stays : (s : List ℕ) (e′ : Event) → s ≡ h .store → e′ ≡ other → Inv cipher (record { store = s; log = e′ ∷ h .log })
+  stays s e′ q p = goes-on s (i .table) e′ other (rw q (i .is-stored)) p (pass-by cipher (i .table) (h .log) (i .account))
+
+module _ (cipher : Cipher) (laws : Laws cipher) where
+  step-keeps : (c : Call) (h : Session) → Typed c → Inv cipher h → Inv cipher (step cipher c h)
+  unfolding step outcome event
+  step-keeps (Add role kid suite base) h q i = by (add-step cipher laws (h .store) (i .table) (i .is-stored) role kid suite base (q .0) (q .1))
+    where
+      by : AddStep cipher (h .store) (i .table) role kid suite base (add cipher (h .store) role kid suite base) → Inv cipher (step cipher (Add role kid suite base) h)
+      by (AddStep.refused d e) = stays cipher h i _ _ e (passed-by _ _ d)
+      by (AddStep.done z known free c st) =
+          goes-on cipher h i _ (fill (addedRecord cipher role kid suite base) (i .table)) _ (added (addingOf role kid suite base)) st (happened _ _ z)
+          (added-account cipher (i .table) (h .log) (i .account) kid suite base (q .1) (fill (addedRecord cipher role kid suite base) (i .table)) free role c)
+  step-keeps (Remove kid) h q i = by (remove-step (h .store) (i .table) (i .is-stored) kid)
+    where
+      by : RemoveStep (h .store) (i .table) kid (remove (h .store) kid) → Inv cipher (step cipher (Remove kid) h)
+      by (RemoveStep.refused d e) = stays cipher h i _ _ e refl
+      by (RemoveStep.freed r z g c st) =
+          goes-on cipher h i _ (clear kid (i .table)) other other st refl (freed-account cipher (i .table) (h .log) (i .account) kid r (clear kid (i .table)) g c)
+      by (RemoveStep.closed r z g c st) =
+          goes-on cipher h i _ (put kid (kept r) (i .table)) other other st refl (closed-account cipher (i .table) (h .log) (i .account) kid r (put kid (kept r) (i .table)) g c)
+  step-keeps (Seal kid metadata plaintext room) h q i = by (seal-step cipher laws (h .store) (i .table) (i .is-stored) kid metadata plaintext room)
+    where
+      by : SealStep cipher (h .store) (i .table) kid metadata plaintext (seal cipher (h .store) kid metadata plaintext room) → Inv cipher (step cipher (Seal kid metadata plaintext room) h)
+      by (SealStep.refused d e) = stays cipher h i _ _ e (passed-by _ _ d)
+      by (SealStep.done r p) =
+          goes-on cipher h i _ (put kid (next r) (i .table)) _ (sealed (sealingOf metadata plaintext (seal cipher (h .store) kid metadata plaintext room))) (p .store-is) (happened _ _ (p .answers))
+          (sealed-account cipher (i .table) (h .log) (i .account) kid metadata plaintext (seal cipher (h .store) kid metadata plaintext room) r (q .1) (q .2) p)
+  step-keeps (Open metadata bytes room) h q i = stays cipher h i _ _ (open-store cipher (h .store) metadata bytes room) refl
+
+  pub run-keeps : (cs : List Call) (h : Session) → AllTyped cs → Inv cipher h → Inv cipher (run cipher cs h)
+  unfolding run
+  run-keeps [] h q i = i
+  run-keeps (c ∷ cs) h q i = run-keeps cs (step cipher c h) (q .1) (step-keeps c h (q .0) i)
+
+  pub start-keeps : (s : List ℕ) → make s .number ≡ 0 → Inv cipher (start s)
+  unfolding start senders
+  start-keeps s e =
+      let n = length s / recordSize in
+      record {
+        table = replicate n empty;
+        is-stored = make-stored s e;
+        account = record { ledger = λ k. rw (empties-get k n); frames = tt; covered = tt };
+      }

@@ -1,0 +1,8 @@
+mod Frames
+mod Ledger
+pub mod Neighbours
+pub mod Opens
+pub mod Seals
+pub mod Soundness
+pub mod Suites
+pub mod Theorem

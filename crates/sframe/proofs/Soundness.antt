@@ -1,0 +1,65 @@
+-- A store that is made is sound, every call leaves a sound store sound, and a refusal changes nothing. Assumes nothing.
+use mathlib.Core.Path.{_≡_, refl}
+use mathlib.Core.Bool.{true}
+use mathlib.Core.List.{List, []}
+use Prim.Native.Nat.{ℕ, zero, suc, _/_}
+use lib.ListN.{length, replicate}
+use Rattle.octets.specs.Octets.{Octets}
+use Rattle.store.specs.Answers.{Outcome, settled}
+use Rattle.store.specs.Calls.{make, addAt, add, removeAt, remove}
+use Rattle.store.specs.Cipher.{Cipher}
+use Rattle.store.specs.Record.{recordSize, KeyRecord, empty}
+use Rattle.store.specs.Store.{records, sound}
+use Rattle.store.proofs.CipherLaws.{Laws}
+use Rattle.store.proofs.Keys.{make-stored, AddStep, add-step, RemoveStep, remove-step}
+use Rattle.store.proofs.Stores.{Stored, sound-stored, stored-sound, stored-octets}
+use Rattle.sframe.specs.Calls.{sealAt, seal, openAt, opening}
+use Rattle.sframe.specs.Promises.{Unchanged}
+use Rattle.sframe.specs.Session.{Call, Add, Remove, Seal, Open, Typed, outcome}
+use Rattle.sframe.proofs.Ledger.{open-store}
+use Rattle.sframe.proofs.Seals.{SealStep, seal-step}
+
+-- bytes that are a table are a sound store
+sound-bytes : (s : List ℕ) (rs : List KeyRecord) → Stored s rs → Octets s × (sound s ≡ true)
+sound-bytes s rs t = (stored-octets s rs t, stored-sound s rs t)
+
+pub made-sound : (s : List ℕ) → make s .number ≡ 0 → Octets (make s .store) × (sound (make s .store) ≡ true)
+made-sound s e = sound-bytes (make s .store) (replicate (length s / recordSize) empty) (make-stored s e)
+
+module _ (cipher : Cipher) (laws : Laws cipher) where
+  pub call-sound : (c : Call) (s : List ℕ) → Typed c → Octets s → sound s ≡ true → Octets (outcome cipher c s .store) × (sound (outcome cipher c s .store) ≡ true)
+  unfolding outcome
+  call-sound (Add role kid suite base) s q o e = by (add cipher s role kid suite base) (add-step cipher laws s (records s) (sound-stored s o e) role kid suite base (q .0) (q .1))
+    where
+      by : (x : Outcome) → AddStep cipher s (records s) role kid suite base x → Octets (x .store) × (sound (x .store) ≡ true)
+      by x (AddStep.done z k f c t) = sound-bytes (x .store) _ t
+      by x (AddStep.refused d p) = rw p (o, e)
+  call-sound (Remove kid) s q o e = by (remove s kid) (remove-step s (records s) (sound-stored s o e) kid)
+    where
+      by : (x : Outcome) → RemoveStep s (records s) kid x → Octets (x .store) × (sound (x .store) ≡ true)
+      by x (RemoveStep.freed r z g c t) = sound-bytes (x .store) _ t
+      by x (RemoveStep.closed r z g c t) = sound-bytes (x .store) _ t
+      by x (RemoveStep.refused d p) = rw p (o, e)
+  call-sound (Seal kid metadata plaintext room) s q o e =
+      by (seal cipher s kid metadata plaintext room) (seal-step cipher laws s (records s) (sound-stored s o e) kid metadata plaintext room)
+    where
+      by : (x : Outcome) → SealStep cipher s (records s) kid metadata plaintext x → Octets (x .store) × (sound (x .store) ≡ true)
+      by x (SealStep.done r p) = sound-bytes (x .store) _ (p .store-is)
+      by x (SealStep.refused d p) = rw p (o, e)
+  call-sound (Open metadata bytes room) s q o e = rw (open-store cipher s metadata bytes room) (o, e)
+
+-- ---- refusals
+
+unchanged : (n : ℕ) (s room : List ℕ) (o : Outcome) → o .number ≡ 0 → (settled n s room o .number ≡ 0 → ⊥)
+    → (settled n s room o .written ≡ 0) × (settled n s room o .store ≡ s) × (settled n s room o .room ≡ room)
+unfolding settled
+unchanged zero s room o z d = absurd (d z)
+unchanged (suc n) s room o z d = (refl, refl, refl)
+
+-- of any store, sound or not
+pub refusal-changes-nothing : (cipher : Cipher) (c : Call) (s : List ℕ) → (outcome cipher c s .number ≡ 0 → ⊥) → Unchanged c s (outcome cipher c s)
+unfolding outcome add addAt remove removeAt seal sealAt opening openAt
+refusal-changes-nothing cipher (Add role kid suite base) s d = let u = unchanged _ s [] _ refl d in record { nothing-written = u .0; store-stays = u .1; room-stays = u .2 }
+refusal-changes-nothing cipher (Remove kid) s d = let u = unchanged _ s [] _ refl d in record { nothing-written = u .0; store-stays = u .1; room-stays = u .2 }
+refusal-changes-nothing cipher (Seal kid metadata plaintext room) s d = let u = unchanged _ s room _ refl d in record { nothing-written = u .0; store-stays = u .1; room-stays = u .2 }
+refusal-changes-nothing cipher (Open metadata bytes room) s d = let u = unchanged _ s room _ refl d in record { nothing-written = u .0; store-stays = u .1; room-stays = u .2 }

@@ -1,0 +1,57 @@
+-- The theorems of the layer, over the definitions that its calls are proved to follow, with the five suites in place. Each statement's
+-- words stand in specs/Promises.
+-- Assumes nothing.
+use mathlib.Core.Path.{_≡_}
+use mathlib.Core.Bool.{true}
+use mathlib.Core.List.{List}
+use Prim.Native.Nat.{ℕ}
+use Rattle.octets.specs.Octets.{Octets}
+use Rattle.header.specs.Answers.{readKid}
+use Rattle.header.specs.Header.{readHeader}
+use Rattle.store.specs.Calls.{make}
+use Rattle.store.specs.Cipher.{Cipher}
+use Rattle.store.specs.Record.{ReceivingKey}
+use Rattle.store.specs.Store.{sound}
+use Rattle.sframe.specs.Calls.{seal, opening}
+use Rattle.sframe.specs.Promises.{Kept, Openable, OpensExactly, Alike, SameAnswer, Unchanged}
+use Rattle.sframe.specs.Sframe.{sframe}
+use Rattle.sframe.specs.Session.{Call, Typed, AllTyped, outcome, run, start}
+use Rattle.sframe.proofs.Frames.{kept}
+use Rattle.sframe.proofs.Ledger.{run-keeps, start-keeps}
+use Rattle.sframe.proofs.Neighbours.{neighbours-seal, neighbours-open}
+use Rattle.sframe.proofs.Opens.{opens-exactly}
+use Rattle.sframe.proofs.Suites.{suites-laws}
+use Rattle.sframe.proofs.Soundness.{made-sound, call-sound, refusal-changes-nothing}
+
+-- Every list of calls, refused ones included, on the store that a Make answering 0 leaves, at any length that it accepts:
+-- its sealed frames carry different KIDs and counters, use different nonces under one KID, none equals or begins another,
+-- each was sealed under the one Add for sending of its KID, and each is opened by every sound store that holds its key.
+pub every-list : (s : List ℕ) → make s .number ≡ 0 → (calls : List Call) → AllTyped calls → Kept sframe (run sframe calls (start s) .log)
+every-list s made calls typed =
+    let i = run-keeps sframe suites-laws calls (start s) typed (start-keeps sframe suites-laws s made) in
+    kept sframe suites-laws (run sframe calls (start s) .log) (i .account .frames)
+
+-- Opening succeeds exactly when the frame is the RFC's encryption of some plaintext, and yields that plaintext.
+pub opening-exact : (s metadata bytes room : List ℕ) (r : ReceivingKey) (ctr : ℕ) → Openable sframe s metadata bytes room r ctr → OpensExactly sframe s metadata bytes room r ctr
+opening-exact = opens-exactly sframe suites-laws
+
+-- Sealing and opening depend on other records only through soundness, and change none of them.
+pub sealing-alone : (s t : List ℕ) (kid place : ℕ) → Alike s t kid place → (metadata plaintext room : List ℕ)
+    → SameAnswer s t place (seal sframe s kid metadata plaintext room) (seal sframe t kid metadata plaintext room)
+sealing-alone = neighbours-seal sframe suites-laws
+
+pub opening-alone : (s t : List ℕ) (place : ℕ) (metadata bytes room : List ℕ) → Alike s t (readKid (readHeader bytes)) place
+    → SameAnswer s t place (opening sframe s metadata bytes room) (opening sframe t metadata bytes room)
+opening-alone = neighbours-open sframe suites-laws
+
+-- Every call leaves a sound store sound.
+pub stays-sound : (c : Call) (s : List ℕ) → Typed c → Octets s → sound s ≡ true → Octets (outcome sframe c s .store) × (sound (outcome sframe c s .store) ≡ true)
+stays-sound = call-sound sframe suites-laws
+
+-- A store that is made is sound.
+pub made : (s : List ℕ) → make s .number ≡ 0 → Octets (make s .store) × (sound (make s .store) ≡ true)
+made = made-sound
+
+-- A refused call changes nothing, on any store.
+pub refused-unchanged : (cipher : Cipher) (c : Call) (s : List ℕ) → (outcome cipher c s .number ≡ 0 → ⊥) → Unchanged c s (outcome cipher c s)
+refused-unchanged = refusal-changes-nothing

@@ -1,0 +1,5 @@
+pub mod Frame
+pub mod Calls
+pub mod Session
+pub mod Promises
+pub mod Sframe

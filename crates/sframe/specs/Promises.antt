@@ -1,0 +1,160 @@
+-- What holds after every list of calls: the words of it, and the whole of it.
+-- Assumes nothing.
+use mathlib.Core.Path.{_≡_}
+use mathlib.Core.Bool.{Bool, true, false}
+use mathlib.Core.List.{List, [], _∷_, _++_}
+use mathlib.Core.Logic.{_↔_}
+use Prim.Native.Nat.{ℕ, _-_, _≤_}
+use lib.Dec.{eqb}
+use lib.ListN.{length, getD, take, drop}
+use Rattle.octets.specs.Octets.{Octets}
+use Rattle.header.specs.Answers.{readKid, readCtr, done, readNumber}
+use Rattle.header.specs.Header.{pick, readHeader}
+use Rattle.header.specs.declared.Reading.the-variants.{Header}
+use Rattle.store.specs.Answers.{Outcome}
+use Rattle.store.specs.Cipher.{Cipher}
+use Rattle.store.specs.Record.{ReceivingKey, empty, receiving}
+use Rattle.store.specs.Store.{records, sound}
+use Rattle.store.specs.Table.{holds}
+use Rattle.store.specs.declared.Role.{Role}
+use Rattle.store.specs.declared.Role.the-variants.{Sending, Receiving}
+use Rattle.sframe.specs.Calls.{maxPlaintext, maxMetadata, opening}
+use Rattle.sframe.specs.Frame.{frame}
+use Rattle.store.specs.Suites.{tagSize}
+use Rattle.sframe.specs.Session.{Call, roomOf, Adding, Sealing, Event, added, sealed, other}
+
+-- A sealed frame "carries" the KID and the counter that its own header gives.
+unfoldable pub kidOf : Sealing → ℕ
+kidOf x = readKid (readHeader (x .frame))
+
+unfoldable pub ctrOf : Sealing → ℕ
+ctrOf x = readCtr (readHeader (x .frame))
+
+-- It "begins" another when the other's first bytes, as many as it has itself, are its own.
+abbrev pub Begins : Sealing → Sealing → Type 0
+Begins x y = take (length (x .frame)) (y .frame) ≡ x .frame
+
+-- The Adds for sending of a KID that answered 0, the newest first.
+abbrev pub isSender : ℕ → Adding → Role → Bool
+isSender kid a Sending = eqb (a .kid) kid
+isSender kid a Receiving = false
+
+unfoldable pub senders : ℕ → List Event → List Adding
+senders kid [] = []
+senders kid (added a ∷ log) = pick (isSender kid a (a .role)) (a ∷ senders kid log) (senders kid log)
+senders kid (sealed x ∷ log) = senders kid log
+senders kid (other ∷ log) = senders kid log
+
+-- "Opened to it": Open answers 0 and the plaintext's length, and the room starts with the plaintext.
+pub record OpenedTo (plaintext : List ℕ) (o : Outcome) : Type 0 where
+  pub answers : o .number ≡ done
+  pub writes : o .written ≡ length plaintext
+  pub starts : take (length plaintext) (o .room) ≡ plaintext
+
+-- A refusal: length 0, every lent byte stays.
+pub record Unchanged (c : Call) (s : List ℕ) (o : Outcome) : Type 0 where
+  pub nothing-written : o .written ≡ 0
+  pub store-stays : o .store ≡ s
+  pub room-stays : o .room ≡ roomOf c
+
+-- A sound store holds a key for receiving: the record stands in it at some place.
+pub record Holds (s : List ℕ) (r : ReceivingKey) : Type 0 where
+  pub octets : Octets s
+  pub is-sound : sound s ≡ true
+  pub place : ℕ
+  pub holds-it : getD (records s) place empty ≡ receiving r
+
+module _ (cipher : Cipher) where
+  -- The key and the salt that RFC 9605 derives from an Add's base key, KID and suite.
+  abbrev pub keyFrom : Adding → List ℕ
+  keyFrom a = cipher .key (a .suite) (a .base) (a .kid)
+
+  abbrev pub saltFrom : Adding → List ℕ
+  saltFrom a = cipher .salt (a .suite) (a .base) (a .kid)
+
+  -- The nonce of a frame under an Add's salt.
+  abbrev pub nonceOf : Adding → Sealing → List ℕ
+  nonceOf a x = cipher .nonce (saltFrom a) (ctrOf x)
+
+  -- ---- opening
+
+  -- The bytes are the RFC's encryption of some plaintext under a key held for receiving, with that counter and that metadata.
+  pub record Encryption (r : ReceivingKey) (ctr : ℕ) (metadata bytes : List ℕ) : Type 0 where
+    pub plaintext : List ℕ
+    pub octets : Octets plaintext
+    pub is-frame : bytes ≡ frame cipher (r .suite) (r .key) (r .salt) (r .kid) ctr metadata plaintext
+
+  -- Where the store is sound and holds the frame's KID for receiving, and sizes and room suffice ..
+  pub record Openable (s metadata bytes room : List ℕ) (r : ReceivingKey) (ctr : ℕ) : Type 0 where
+    pub held : Holds s r
+    pub metadata-octets : Octets metadata
+    pub bytes-octets : Octets bytes
+    pub header-length : ℕ
+    pub header-is : readHeader bytes ≡ Header (record { 0 = r .kid }) (record { 0 = ctr }) header-length
+    pub plaintext-most : length bytes - header-length - tagSize (r .suite) ≤ maxPlaintext
+    pub metadata-most : length metadata ≤ maxMetadata
+    pub room-enough : length bytes - header-length - tagSize (r .suite) ≤ length room
+
+  -- .. opening succeeds exactly when the frame is such an encryption, and yields that plaintext; the room beyond it stays.
+  pub record OpensExactly (s metadata bytes room : List ℕ) (r : ReceivingKey) (ctr : ℕ) : Type 0 where
+    pub exactly : (opening cipher s metadata bytes room .number ≡ done) ↔ Encryption r ctr metadata bytes
+    pub yields : (e : Encryption r ctr metadata bytes) → OpenedTo (e .plaintext) (opening cipher s metadata bytes room)
+    pub beyond : (e : Encryption r ctr metadata bytes) → opening cipher s metadata bytes room .room ≡ e .plaintext ++ drop (length (e .plaintext)) room
+
+  -- ---- every list of calls
+
+  -- One sealed frame, with the events before it.
+  pub record Frame (x : Sealing) (earlier : List Event) : Type 0 where
+    -- it has a header
+    pub header-read : readNumber (readHeader (x .frame)) ≡ done
+    -- its KID has had exactly one Add for sending that answered 0 earlier
+    pub add : Adding
+    pub only : senders (kidOf x) earlier ≡ add ∷ []
+    pub its-kid : add .kid ≡ kidOf x
+    -- it was sealed under that Add's suite, and the key and salt derived from it: it is the RFC's frame
+    pub sealed-under : x .frame ≡ frame cipher (add .suite) (keyFrom add) (saltFrom add) (kidOf x) (ctrOf x) (x .metadata) (x .plaintext)
+    -- every sound store that holds that KID, suite, key and salt for receiving opens it, given its metadata and "room for its plaintext"
+    pub opens : (s room : List ℕ) → Holds s (record { suite = add .suite; kid = kidOf x; salt = saltFrom add; key = keyFrom add }) → length (x .plaintext) ≤ length room
+        → OpenedTo (x .plaintext) (opening cipher s (x .metadata) (x .frame) room)
+
+  -- Two sealed frames, each with the events before it.
+  pub record Pair (x : Sealing) (before-x : List Event) (y : Sealing) (before-y : List Event) : Type 0 where
+    -- they do not carry the same KID and counter
+    pub pairs-apart : kidOf x ≡ kidOf y → ctrOf x ≡ ctrOf y → ⊥
+    -- under one KID they do not use one nonce
+    pub nonces-apart : kidOf x ≡ kidOf y → (a b : Adding) → senders (kidOf x) before-x ≡ a ∷ [] → senders (kidOf y) before-y ≡ b ∷ [] → nonceOf a x ≡ nonceOf b y → ⊥
+    -- they are not equal, and neither begins the other
+    pub not-equal : x .frame ≡ y .frame → ⊥
+    pub not-begins : Begins x y → ⊥
+    pub not-begun : Begins y x → ⊥
+
+  -- The whole claim, of all the events of a list.
+  pub record Kept (log : List Event) : Type 0 where
+    pub every-frame : (later earlier : List Event) (x : Sealing) → log ≡ later ++ (sealed x ∷ earlier) → Frame x earlier
+    pub every-pair : (later between earlier : List Event) (x y : Sealing) → log ≡ later ++ (sealed x ∷ (between ++ (sealed y ∷ earlier)))
+        → Pair x (between ++ (sealed y ∷ earlier)) y earlier
+
+-- ---- neighbours in one store
+
+-- Two sound stores with the record of a KID alike at the same place, whatever the rest of each holds.
+pub record Alike (s t : List ℕ) (kid place : ℕ) : Type 0 where
+  pub s-octets : Octets s
+  pub s-sound : sound s ≡ true
+  pub t-octets : Octets t
+  pub t-sound : sound t ≡ true
+  pub holds-kid : holds kid (getD (records s) place empty) ≡ true
+  pub alike : getD (records s) place empty ≡ getD (records t) place empty
+
+-- No record but the one at that place is another after a call.
+pub record OthersStay (s : List ℕ) (o : Outcome) (place : ℕ) : Type 0 where
+  pub length-stays : length (o .store) ≡ length s
+  pub others-stay : (j : ℕ) → (j ≡ place → ⊥) → getD (records (o .store)) j empty ≡ getD (records s) j empty
+
+-- The same call on both: the same number, length and output, and the same new record; no other record changes.
+pub record SameAnswer (s t : List ℕ) (place : ℕ) (o p : Outcome) : Type 0 where
+  pub same-number : o .number ≡ p .number
+  pub same-length : o .written ≡ p .written
+  pub same-room : o .room ≡ p .room
+  pub same-record : getD (records (o .store)) place empty ≡ getD (records (p .store)) place empty
+  pub s-others : OthersStay s o place
+  pub t-others : OthersStay t p place
