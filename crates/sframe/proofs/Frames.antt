@@ -17,7 +17,7 @@ use Rattle.store.proofs.CipherLaws.{Laws, Usable}
 use Rattle.sframe.specs.Calls.{opening}
 use Rattle.sframe.specs.Frame.{frame}
 use Rattle.sframe.specs.Promises.{kidOf, ctrOf, Begins, isSender, senders, OpenedTo, keyFrom, saltFrom, nonceOf, Holds, Frame, Pair, Kept}
-use Rattle.sframe.specs.Session.{Adding, Sealing, Event, added, sealed, other}
+use Rattle.sframe.specs.History.{Adding, Sealing, Event, added, sealed, other}
 use Rattle.sframe.proofs.Ledger.{Each, Fact, fact-reads, fact-kid, fact-ctr, Below, Proper}
 use Rattle.store.specs.Suites.{tagSize}
 use Rattle.sframe.proofs.Opens.{opens-exactly}

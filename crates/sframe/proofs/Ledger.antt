@@ -26,7 +26,7 @@ use Rattle.store.proofs.Stores.{Stored, Change}
 use Rattle.sframe.specs.Calls.{maxPlaintext, maxMetadata, counterOf, seal, openAt, opening}
 use Rattle.sframe.specs.Frame.{frame}
 use Rattle.sframe.specs.Promises.{kidOf, ctrOf, senders, keyFrom, saltFrom}
-use Rattle.sframe.specs.Session.{Call, Add, Remove, Seal, Open, Typed, AllTyped, Adding, Sealing, Event, added, sealed, other, event, Session, outcome, step, run, start}
+use Rattle.sframe.specs.History.{Call, Add, Remove, Seal, Open, Typed, AllTyped, Adding, Sealing, Event, added, sealed, other, event, History, outcome, step, run, start}
 use Rattle.store.specs.Suites.{isSuite}
 use Rattle.sframe.proofs.Seals.{next, Sealed, SealStep, seal-step}
 
@@ -111,7 +111,7 @@ pub record Account (cipher : Cipher) (rs : List KeyRecord) (log : List Event) : 
   pub frames : Each (Proper cipher) log
   pub covered : Each (Covered rs) log
 
-pub record Inv (cipher : Cipher) (h : Session) : Type 0 where
+pub record Inv (cipher : Cipher) (h : History) : Type 0 where
   pub table : List KeyRecord
   pub is-stored : Stored (h .store) table
   pub account : Account cipher table (h .log)
@@ -282,7 +282,7 @@ happened n e z = rw (eq-eqb n 0 z)
 passed-by : (n : ℕ) (e : Event) → (n ≡ 0 → ⊥) → pick (eqb n 0) e other ≡ other
 passed-by n e d = rw (ne-eqb n 0 d)
 
-module _ (cipher : Cipher) (h : Session) (i : Inv cipher h) where
+module _ (cipher : Cipher) (h : History) (i : Inv cipher h) where
   -- an event that is e, and a store that is rs in bytes
   goes-on : (s : List ℕ) (rs : List KeyRecord) (e′ e : Event) → Stored s rs → e′ ≡ e → Account cipher rs (e ∷ h .log) → Inv cipher (record { store = s; log = e′ ∷ h .log })
   goes-on s rs e′ e st p acc = record { table = rs; is-stored = st; account = rw p acc }
@@ -291,7 +291,7 @@ module _ (cipher : Cipher) (h : Session) (i : Inv cipher h) where
   stays s e′ q p = goes-on s (i .table) e′ other (rw q (i .is-stored)) p (pass-by cipher (i .table) (h .log) (i .account))
 
 module _ (cipher : Cipher) (laws : Laws cipher) where
-  step-keeps : (c : Call) (h : Session) → Typed c → Inv cipher h → Inv cipher (step cipher c h)
+  step-keeps : (c : Call) (h : History) → Typed c → Inv cipher h → Inv cipher (step cipher c h)
   unfolding step outcome event
   step-keeps (Add role kid suite base) h q i = by (add-step cipher laws (h .store) (i .table) (i .is-stored) role kid suite base (q .0) (q .1))
     where
@@ -317,7 +317,7 @@ module _ (cipher : Cipher) (laws : Laws cipher) where
           (sealed-account cipher (i .table) (h .log) (i .account) kid metadata plaintext (seal cipher (h .store) kid metadata plaintext room) r (q .1) (q .2) p)
   step-keeps (Open metadata bytes room) h q i = stays cipher h i _ _ (open-store cipher (h .store) metadata bytes room) refl
 
-  pub run-keeps : (cs : List Call) (h : Session) → AllTyped cs → Inv cipher h → Inv cipher (run cipher cs h)
+  pub run-keeps : (cs : List Call) (h : History) → AllTyped cs → Inv cipher h → Inv cipher (run cipher cs h)
   unfolding run
   run-keeps [] h q i = i
   run-keeps (c ∷ cs) h q i = run-keeps cs (step cipher c h) (q .1) (step-keeps c h (q .0) i)

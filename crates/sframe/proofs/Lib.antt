@@ -2,6 +2,7 @@ mod Frames
 mod Ledger
 pub mod Neighbours
 pub mod Opens
+mod SealSteps
 pub mod Seals
 pub mod Soundness
 pub mod Suites

@@ -15,7 +15,7 @@ use Rattle.store.proofs.Keys.{make-stored, AddStep, add-step, RemoveStep, remov
 use Rattle.store.proofs.Stores.{Stored, sound-stored, stored-sound, stored-octets}
 use Rattle.sframe.specs.Calls.{sealAt, seal, openAt, opening}
 use Rattle.sframe.specs.Promises.{Unchanged}
-use Rattle.sframe.specs.Session.{Call, Add, Remove, Seal, Open, Typed, outcome}
+use Rattle.sframe.specs.History.{Call, Add, Remove, Seal, Open, Typed, outcome}
 use Rattle.sframe.proofs.Ledger.{open-store}
 use Rattle.sframe.proofs.Seals.{SealStep, seal-step}
 

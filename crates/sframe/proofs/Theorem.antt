@@ -15,7 +15,7 @@ use Rattle.store.specs.Store.{sound}
 use Rattle.sframe.specs.Calls.{seal, opening}
 use Rattle.sframe.specs.Promises.{Kept, Openable, OpensExactly, Alike, SameAnswer, Unchanged}
 use Rattle.sframe.specs.Sframe.{sframe}
-use Rattle.sframe.specs.Session.{Call, Typed, AllTyped, outcome, run, start}
+use Rattle.sframe.specs.History.{Call, Typed, AllTyped, outcome, run, start}
 use Rattle.sframe.proofs.Frames.{kept}
 use Rattle.sframe.proofs.Ledger.{run-keeps, start-keeps}
 use Rattle.sframe.proofs.Neighbours.{neighbours-seal, neighbours-open}

@@ -1,5 +1,5 @@
 pub mod Frame
 pub mod Calls
-pub mod Session
+pub mod History
 pub mod Promises
 pub mod Sframe

@@ -21,7 +21,7 @@ use Rattle.store.specs.declared.Role.the-variants.{Sending, Receiving}
 use Rattle.sframe.specs.Calls.{maxPlaintext, maxMetadata, opening}
 use Rattle.sframe.specs.Frame.{frame}
 use Rattle.store.specs.Suites.{tagSize}
-use Rattle.sframe.specs.Session.{Call, roomOf, Adding, Sealing, Event, added, sealed, other}
+use Rattle.sframe.specs.History.{Call, roomOf, Adding, Sealing, Event, added, sealed, other}
 
 -- A sealed frame "carries" the KID and the counter that its own header gives.
 unfoldable pub kidOf : Sealing → ℕ

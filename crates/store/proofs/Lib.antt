@@ -1,11 +1,12 @@
+mod Addition
 pub mod Basics
 pub mod CipherLaws
 pub mod Codec
-mod Judge
+pub mod Judge
 pub mod Keys
 mod Removal
-mod Rows
+pub mod Rows
 pub mod Stores
 pub mod Suites
 pub mod Tables
-mod Walk
+pub mod Walk

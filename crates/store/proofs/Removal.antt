@@ -21,7 +21,7 @@ use Rattle.store.specs.declared.Place.the-variants.{At, Nowhere}
 use Rattle.store.proofs.Basics.{told-false, told-true}
 use Rattle.store.proofs.Codec.{Fit, encode-length}
 use Rattle.store.proofs.Keys.{kept}
-use Rattle.store.proofs.Stores.{Stored, sound-stored, stored-length, get-fit, encode-at, encode-set}
+use Rattle.store.proofs.Stores.{Stored, sound-stored, stored-length, get-fit, encode-at, row-changed}
 use Rattle.store.proofs.Tables.{clear-at, put-at, holds-some}
 
 -- ---- Make
@@ -129,14 +129,8 @@ module _ (s : List ℕ) (kid : ℕ) (o : Octets s) (r : Bool) (e : r ≡ sound s
           ∙ ap (λ (x : List ℕ). getD x 0 0) row-is
           ∙ mark-encode (getD (records s) i empty)
 
-      -- the store with a record changed is its bytes with the row changed
       changed : (x q : List ℕ) (end : ℕ) (new : KeyRecord) → end ≡ i * 80 + 80 → x ≡ putMid (i * 80) (end - i * 80) s q → q ≡ encode new → x ≡ encodeAll (set (records s) i new)
-      changed x q end new n a b =
-          let k : end - i * 80 ≡ 80 = omega arith in
-          a
-          ∙ ap₂ (λ (y : List ℕ) (j : ℕ). take (i * 80) s ++ (y ++ drop j (drop (i * 80) s))) b k
-          ∙ ap (λ (y : List ℕ). take (i * 80) y ++ (encode new ++ drop 80 (drop (i * 80) y))) (sym (st .bytes-are))
-          ∙ sym (encode-set (records s) i new (st .table .fit) (found .0))
+      changed x q end new n a b = row-changed s (records s) st i x q end new (found .0) n a b
 
       pub remove-retired : getD s (i * 80) 0 ≡ 3 → (7 ≡ remove s kid .number) × (s ≡ remove s kid .store)
       unfolding markOf removeCauses first settled

@@ -1,13 +1,13 @@
 -- The bytes of a record obey their row just where the tests of them pass. Assumes nothing.
 use mathlib.Core.Path.{_≡_, refl, sym, _∙_, ap, ap₂}
 use mathlib.Core.Bool.{Bool, true, false, false≢true}
-use mathlib.Core.List.{List, [], _∷_, _++_}
+use mathlib.Core.List.{List, [], _∷_, _++_, append-assoc}
 use Prim.Native.Nat.{ℕ, _+_, _-_, _<_, _≤_}
 use native.Mathlib.Numerals.{add-one}
 use native.Mathlib.Omega.{arith}
 use lib.Bits.{bitOr, or-zero-l}
 use lib.Dec.{leb, eqb}
-use lib.ListN.{length, getD, take, drop, replicate, length-take, length-drop, length-replicate, take-append-drop, replicate-append-replicate, getD-replicate}
+use lib.ListN.{length, length-append, getD, take, drop, replicate, length-take, length-drop, length-replicate, take-append-drop, replicate-append-replicate, getD-replicate, set}
 use lib.Seq.{take-at, drop-at, drop-drop, take-suc, take-take, take-all, getD-take}
 use borrow.Author.Tests.{leb-true, le-leb, eq-eqb, eqb-true, eqb-false}
 use Rattle.octets.specs.Octets.{Octets, number, bytes, pasted, same, both}
@@ -83,6 +83,56 @@ row-counter mark suite kid counter v salt key =
     let l : List ℕ = (mark ∷ suite ∷ 0 ∷ 0 ∷ []) ++ (bytes 8 kid ++ r3) in
     ap₂ (λ (x : List ℕ) (n : ℕ). mark ∷ suite ∷ 0 ∷ 0 ∷ (x ++ (bytes 8 v ++ drop (12 + n) l))) (take-at (bytes 8 kid) r3 8 (bytes-length 8 kid)) (bytes-length 8 v)
     ∙ ap (λ (x : List ℕ). mark ∷ suite ∷ 0 ∷ 0 ∷ (bytes 8 kid ++ (bytes 8 v ++ x))) (row-salt mark suite kid counter salt key)
+
+-- a row that was empty, field by field
+pub row-start : (l x : List ℕ) (mark suite kid : ℕ) → l ≡ replicate 80 0 → x ≡ pasted l 4 (bytes 8 kid) → set (set x 1 suite) 0 mark ≡ row mark suite kid 0 (replicate saltSize 0) []
+unfolding row pasted bytes
+row-start l x mark suite kid e q =
+    ap (λ (t : List ℕ). set (set t 1 suite) 0 mark) (q ∙ ap (λ (t : List ℕ). pasted t 4 (bytes 8 kid)) e)
+
+-- what stands before the salt
+rowHead : ℕ → ℕ → ℕ → ℕ → List ℕ
+rowHead mark suite kid counter = (mark ∷ suite ∷ 0 ∷ 0 ∷ []) ++ (bytes 8 kid ++ bytes 8 counter)
+
+head-length : (mark suite kid counter : ℕ) → length (rowHead mark suite kid counter) ≡ 20
+unfolding rowHead
+head-length mark suite kid counter = simp (length-append, bytes-length)
+
+row-parts : (mark suite kid counter : ℕ) (salt key : List ℕ) → row mark suite kid counter salt key ≡ rowHead mark suite kid counter ++ (salt ++ (key ++ replicate (keyRoom - length key) 0))
+unfolding row rowHead
+row-parts mark suite kid counter salt key = simp append-assoc
+
+pub row-salted : (mark suite kid counter : ℕ) (salt : List ℕ) → length salt ≡ saltSize
+    → pasted (row mark suite kid counter (replicate saltSize 0) []) 20 salt ≡ row mark suite kid counter salt []
+unfolding pasted
+row-salted mark suite kid counter salt e =
+    let zeros : List ℕ = replicate saltSize 0 in
+    let l = row mark suite kid counter zeros [] in
+    let front : take 20 l ≡ rowHead mark suite kid counter = ap (take 20) (row-parts mark suite kid counter zeros []) ∙ take-at (rowHead mark suite kid counter) (zeros ++ ([] ++ replicate keyRoom 0)) 20 (head-length mark suite kid counter) in
+    let rest : drop (20 + length salt) l ≡ replicate keyRoom 0 = ap (λ (k : ℕ). drop (20 + k) l) e ∙ row-tail mark suite kid counter zeros [] refl in
+    ap₂ (λ (x y : List ℕ). x ++ (salt ++ y)) front rest ∙ sym (row-parts mark suite kid counter salt [])
+
+zeros-drop : (j n : ℕ) → j ≤ n → drop j (replicate {A = ℕ} n 0) ≡ replicate (n - j) 0
+zeros-drop j n h =
+    let e : j + (n - j) ≡ n = omega arith in
+    ap (λ (k : ℕ). drop j (replicate {A = ℕ} k 0)) (sym e)
+    ∙ ap (drop j) (sym (replicate-append-replicate {A = ℕ} j (n - j) 0))
+    ∙ drop-at (replicate j 0) (replicate (n - j) 0) j (length-replicate {A = ℕ} j 0)
+
+pub row-keyed : (mark suite kid counter : ℕ) (salt key : List ℕ) → length salt ≡ saltSize → length key ≤ keyRoom
+    → pasted (row mark suite kid counter salt []) 32 key ≡ row mark suite kid counter salt key
+unfolding pasted
+row-keyed mark suite kid counter salt key e h =
+    let l = row mark suite kid counter salt [] in
+    let hd = rowHead mark suite kid counter in
+    let n : length (hd ++ salt) ≡ 32 = length-append hd salt ∙ ap₂ _+_ (head-length mark suite kid counter) e in
+    let front : take 32 l ≡ hd ++ salt = ap (take 32) (row-parts mark suite kid counter salt [] ∙ sym (append-assoc hd salt (replicate keyRoom 0))) ∙ take-at (hd ++ salt) (replicate keyRoom 0) 32 n in
+    let rest : drop (32 + length key) l ≡ replicate (keyRoom - length key) 0 =
+    sym (drop-drop (length key) 32 l) ∙ ap (drop (length key)) (row-tail mark suite kid counter salt [] e) ∙ zeros-drop (length key) keyRoom h
+    in
+    ap₂ (λ (x y : List ℕ). x ++ (key ++ y)) front rest
+    ∙ append-assoc hd salt (key ++ replicate (keyRoom - length key) 0)
+    ∙ sym (row-parts mark suite kid counter salt key)
 
 -- a list of zeros is as many zeros as it is long
 zeros-are : (x : List ℕ) (j : ℕ) → x ≡ replicate j 0 → replicate (length x) 0 ≡ x

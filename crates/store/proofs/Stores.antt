@@ -2,11 +2,12 @@
 use mathlib.Core.Path.{_≡_, refl, sym, _∙_, ap, ap₂}
 use mathlib.Core.Bool.{Bool, true, false}
 use mathlib.Core.List.{List, [], _∷_, _++_, append-assoc}
-use Prim.Native.Nat.{ℕ, zero, suc, _+_, _*_, _/_, _%_, _<_, _≤_}
+use Prim.Native.Nat.{ℕ, zero, suc, _+_, _*_, _/_, _%_, _-_, _<_, _≤_}
 use native.Mathlib.Omega.{arith}
 use lib.Dec.{leb, eqb}
 use lib.ListN.{length, getD, set, take, drop, length-append, length-take, length-drop, take-append-drop, drop-of-length-le}
 use lib.Seq.{take-at, drop-at, drop-drop, take-append-add}
+use borrow.Rule.Slice.PartMut.{putMid}
 use borrow.Author.Tests.{leb-true, le-leb, eq-eqb, eqb-true}
 use Rattle.octets.specs.Octets.{Octets, both}
 use Rattle.octets.proofs.Laws.{octets-append, octets-take, octets-drop}
@@ -172,6 +173,16 @@ encode-set (x ∷ rs) (suc i) r f h =
     ap (λ (t : List ℕ). encode x ++ t) (encode-set rs i r (f .1) (omega arith))
     ∙ sym (append-assoc (encode x) (take (i * 80) (encodeAll rs)) (encode r ++ drop 80 (drop (i * 80) (encodeAll rs))))
     ∙ ap₂ (λ (a b : List ℕ). a ++ (encode r ++ drop 80 b)) (sym front) (sym (past-one x rs i (f .0)))
+
+-- a store with one record changed is its bytes with one row changed
+pub row-changed : (s : List ℕ) (rs : List KeyRecord) → Stored s rs → (i : ℕ) (x q : List ℕ) (end : ℕ) (new : KeyRecord) → i < length rs → end ≡ i * 80 + 80
+    → x ≡ putMid (i * 80) (end - i * 80) s q → q ≡ encode new → x ≡ encodeAll (set rs i new)
+row-changed s rs st i x q end new h n a b =
+    let k : end - i * 80 ≡ 80 = omega arith in
+    a
+    ∙ ap₂ (λ (y : List ℕ) (j : ℕ). take (i * 80) s ++ (y ++ drop j (drop (i * 80) s))) b k
+    ∙ ap (λ (y : List ℕ). take (i * 80) y ++ (encode new ++ drop 80 (drop (i * 80) y))) (sym (st .bytes-are))
+    ∙ sym (encode-set rs i new (st .table .fit) h)
 
 -- ---- one record changed
 

@@ -7,7 +7,7 @@ use lib.Dec.{leb, eqb}
 use lib.ListN.{length, getD, take, drop, replicate}
 use Rattle.octets.specs.Octets.{number, both}
 use Rattle.header.specs.Header.{pick}
-use Rattle.store.specs.Record.{ceiling, sendingMark, receivingMark, retiredMark}
+use Rattle.store.specs.Record.{ceiling, sendingMark, receivingMark, retiredMark, row}
 use Rattle.store.specs.Suites.{isSuite, keySize}
 
 -- Byte 0 of a non-empty record.
@@ -25,6 +25,10 @@ zerosFrom mark suite = pick (eqb mark retiredMark) 20 (32 + keySize suite)
 -- The suite is one, bytes 2 and 3 are zero, the next counter is not above its limit.
 unfoldable pub fieldsFit : List ℕ → Bool
 fieldsFit l = both (isSuite (getD l 1 0)) (both (eqb (getD l 2 0) 0) (both (eqb (getD l 3 0) 0) (leb (number 8 (drop 12 l)) (counterLimit (getD l 0 0)))))
+
+-- A new record's bytes: its counter is 0.
+abbrev pub newRow : ℕ → ℕ → ℕ → List ℕ → List ℕ → List ℕ
+newRow mark suite kid salt key = row mark suite kid 0 salt key
 
 -- A sending record's bytes once it is retired: byte 0, then what stood before the salt, then zeros.
 unfoldable pub retiredRow : List ℕ → List ℕ

@@ -1,11 +1,12 @@
 // The key store: records of 80 bytes in bytes that the caller lends.
 use header::Kid;
 ghost use mathlib.Core.Path.{_≡_};
+ghost use mathlib.Core.List.{[]};
 ghost use Prim.Native.Nat.{_+_, _/_, _%_, _^_, _≤_, _<_};
 ghost use lib.ListN.{length, drop, replicate};
 ghost use Rattle.octets.specs.Octets.{number, bytes, pasted, same};
 ghost use Rattle.store.specs.Calls.{make, remove};
-ghost use Rattle.store.specs.Judging.{holdingMark, counterLimit, zerosFrom, fieldsFit, retiredRow};
+ghost use Rattle.store.specs.Judging.{holdingMark, counterLimit, zerosFrom, fieldsFit, newRow, retiredRow};
 ghost use Rattle.store.specs.Record.{decode, obeys};
 ghost use Rattle.store.specs.Store.{lengthRight, decodeAll, allObey, sound};
 ghost use Rattle.store.specs.Suites.{isSuite, keySize};
@@ -275,6 +276,16 @@ pub fn is_sound(store: &[u8]) -> bool
         return false;
     }
     kids_apart(store)
+}
+
+// Writes a new record over an empty one: byte 0, suite and KID, the counter 0, salt and key still zero.
+pub fn start_row(row: &mut [u8], mark: u8, suite: u8, kid: Kid)
+    requires { ⌜ now row ≡ replicate 80 0 ⌝ }
+    ensures { λ _. ⌜ now (row .exit) ≡ newRow mark suite (kid .0) (replicate 12 0) [] ⌝ }
+{
+    octets::write_be_at(row, KID, 8, kid.0);
+    row[SUITE] = suite;
+    row[0] = mark;
 }
 
 // Takes a record's next counter: writes one more.

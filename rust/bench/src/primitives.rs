@@ -1,9 +1,10 @@
 //! Times of the primitives under the sealing layer.
 
 use bench::{measure, print_heading, print_method, print_rate, print_time, Times};
-use primitives::{Gcm, Hash};
+use primitives::{Aead, Decrypted, Gcm, Hash};
 use reference::aes::{Aes, BLOCK};
 use reference::sha2::{Sha256, Sha512};
+use reference::suites::{Suite, SUITES};
 use std::hint::black_box;
 use testkit::Generator;
 
@@ -20,6 +21,7 @@ fn main() {
         let key = generator.bytes(key_length);
         ciphers(&key, &generator.array(), &generator.bytes(FRAME));
     }
+    suites(&mut generator);
 }
 
 fn hashes(message: &[u8]) {
@@ -133,4 +135,70 @@ fn gcm_seal(key: &[u8], nonce: &[u8; 12], text: &[u8]) -> Times {
             black_box(&sealed);
         },
     )
+}
+
+fn suites(generator: &mut Generator) {
+    print_heading(&format!("suites, {FRAME} bytes, key set-up included"));
+    for suite in SUITES {
+        let key = generator.bytes(suite.nk());
+        let nonce = generator.array();
+        let plaintext = generator.bytes(FRAME);
+        let number = suite.number();
+        let times = encryption(suite, &key, &nonce, &plaintext);
+        print_time(&format!("suite {number}, encryption"), times);
+        let times = decryption(suite, &key, &nonce, &plaintext);
+        print_time(&format!("suite {number}, decryption"), times);
+    }
+}
+
+fn aead<'a>(suite: Suite, key: &'a [u8], nonce: &'a [u8; 12]) -> Aead<'a> {
+    Aead {
+        suite: suite.number(),
+        key,
+        nonce,
+        header: &HEADER,
+        metadata: &[],
+    }
+}
+
+fn encryption(suite: Suite, key: &[u8], nonce: &[u8; 12], plaintext: &[u8]) -> Times {
+    let mut out = vec![0; plaintext.len() + suite.nt()];
+    let mut sealed = out.clone();
+    let times = measure(
+        || assert!(aead(suite, key, nonce).encrypt(black_box(plaintext), &mut out)),
+        || {
+            let (data, tag) = sealed.split_at_mut(plaintext.len());
+            data.copy_from_slice(black_box(plaintext));
+            let aead = reference::aead::Aead::new(suite, key);
+            tag.copy_from_slice(&aead.encrypt(nonce, &HEADER, data));
+            black_box(&sealed);
+        },
+    );
+    assert_eq!(out, sealed);
+    times
+}
+
+fn decryption(suite: Suite, key: &[u8], nonce: &[u8; 12], plaintext: &[u8]) -> Times {
+    let mut sealed = plaintext.to_vec();
+    let tag = reference::aead::Aead::new(suite, key).encrypt(nonce, &HEADER, &mut sealed);
+    sealed.extend(tag);
+    let mut out = vec![0; plaintext.len()];
+    let mut data = out.clone();
+    let times = measure(
+        || {
+            let result = aead(suite, key, nonce).decrypt(black_box(&sealed), &mut out);
+            assert_eq!(result, Decrypted::Done);
+        },
+        || {
+            let (ciphertext, tag) = black_box(&sealed).split_at(plaintext.len());
+            let aead = reference::aead::Aead::new(suite, key);
+            assert!(aead.verify(nonce, &HEADER, ciphertext, tag));
+            data.copy_from_slice(ciphertext);
+            aead.apply_key_stream(nonce, &mut data);
+            black_box(&data);
+        },
+    );
+    assert_eq!(out, plaintext);
+    assert_eq!(data, plaintext);
+    times
 }

@@ -1,8 +1,27 @@
 //! The C functions of the library `sframe_test`. Each answers 0 for done, with
-//! its result at the front of the output, or 1 with nothing changed.
+//! its result at the front of the output, or 1 with nothing changed. Decryption
+//! answers 13 for a tag that differs, likewise with nothing changed.
 
 /// A GCM call: key, nonce, header, metadata, text and output.
 pub type Gcm = unsafe extern "C" fn(
+    *const u8,
+    usize,
+    *const u8,
+    usize,
+    *const u8,
+    usize,
+    *const u8,
+    usize,
+    *const u8,
+    usize,
+    *mut u8,
+    usize,
+) -> u32;
+
+/// A call of a suite's AEAD: suite, key, nonce, header, metadata, text and
+/// output.
+pub type Aead = unsafe extern "C" fn(
+    u64,
     *const u8,
     usize,
     *const u8,
@@ -133,6 +152,52 @@ extern "C" {
         metadata_len: usize,
         ciphertext: *const u8,
         ciphertext_len: usize,
+        out: *mut u8,
+        out_len: usize,
+    ) -> u32;
+
+    /// A suite's key, of Nk bytes, and its salt, of Nn.
+    pub fn sframe_test_derive(
+        suite: u64,
+        base_key: *const u8,
+        base_key_len: usize,
+        kid: u64,
+        key: *mut u8,
+        key_len: usize,
+        salt: *mut u8,
+        salt_len: usize,
+    ) -> u32;
+
+    /// A suite's encryption: all of `out` is ciphertext, then tag.
+    pub fn sframe_test_suite_encrypt(
+        suite: u64,
+        key: *const u8,
+        key_len: usize,
+        nonce: *const u8,
+        nonce_len: usize,
+        header: *const u8,
+        header_len: usize,
+        metadata: *const u8,
+        metadata_len: usize,
+        plaintext: *const u8,
+        plaintext_len: usize,
+        out: *mut u8,
+        out_len: usize,
+    ) -> u32;
+
+    /// A suite's decryption of ciphertext and tag.
+    pub fn sframe_test_suite_decrypt(
+        suite: u64,
+        key: *const u8,
+        key_len: usize,
+        nonce: *const u8,
+        nonce_len: usize,
+        header: *const u8,
+        header_len: usize,
+        metadata: *const u8,
+        metadata_len: usize,
+        sealed: *const u8,
+        sealed_len: usize,
         out: *mut u8,
         out_len: usize,
     ) -> u32;

@@ -2,7 +2,8 @@
 //! `sframe_test` exports them so that they can be compared and measured.
 //!
 //! Each function writes its result at the front of the room lent last and
-//! answers `true`, or refuses its input and changes nothing.
+//! answers `true`, or refuses its input and changes nothing. Where a function
+//! asks for a room of one size only, it says so.
 
 #![deny(unsafe_op_in_unsafe_fn)]
 
@@ -62,7 +63,7 @@ pub fn hmac(hash: Hash, key: &[u8], message: &[u8], cuts: [usize; 2], tag: &mut 
 }
 
 /// HKDF-Extract with an empty salt, then HKDF-Expand to all of `okm`, at most
-/// 64 bytes.
+/// 255 times the hash's length.
 #[must_use]
 pub fn hkdf(hash: Hash, ikm: &[u8], info: &[u8], okm: &mut [u8]) -> bool {
     let call = match hash {
@@ -162,6 +163,93 @@ impl Gcm<'_> {
                 out.len(),
             )
         })
+    }
+}
+
+/// Fills `key`, which has the suite's Nk bytes, and `salt`, which has 12, from
+/// a base key of at most 64 bytes.
+#[must_use]
+pub fn derive(suite: u64, base_key: &[u8], kid: u64, key: &mut [u8], salt: &mut [u8]) -> bool {
+    // SAFETY: as in `hash`, with two slices that are written.
+    done(unsafe {
+        ffi::sframe_test_derive(
+            suite,
+            base_key.as_ptr(),
+            base_key.len(),
+            kid,
+            key.as_mut_ptr(),
+            key.len(),
+            salt.as_mut_ptr(),
+            salt.len(),
+        )
+    })
+}
+
+/// What decryption answers.
+#[derive(Clone, Copy, Debug, PartialEq, Eq)]
+pub enum Decrypted {
+    /// The plaintext stands at the front of the room.
+    Done,
+    /// The tag differs. Nothing is changed.
+    TagDiffers,
+    /// No such suite, or a wrong size. Nothing is changed.
+    Refused,
+}
+
+/// What a call of a suite's AEAD is given, besides its text. The associated
+/// data is the header, then the metadata.
+#[derive(Clone, Copy, Debug)]
+pub struct Aead<'a> {
+    /// The suite's number.
+    pub suite: u64,
+    /// The key.
+    pub key: &'a [u8],
+    /// The nonce.
+    pub nonce: &'a [u8],
+    /// The first part of the associated data.
+    pub header: &'a [u8],
+    /// The second part of the associated data.
+    pub metadata: &'a [u8],
+}
+
+impl Aead<'_> {
+    /// Fills `out`, which has Nt bytes more than `plaintext`, with the
+    /// ciphertext and the tag.
+    #[must_use]
+    pub fn encrypt(self, plaintext: &[u8], out: &mut [u8]) -> bool {
+        done(self.call(ffi::sframe_test_suite_encrypt, plaintext, out))
+    }
+
+    /// The plaintext of a ciphertext and its tag.
+    #[must_use]
+    pub fn decrypt(self, sealed: &[u8], out: &mut [u8]) -> Decrypted {
+        match self.call(ffi::sframe_test_suite_decrypt, sealed, out) {
+            0 => Decrypted::Done,
+            1 => Decrypted::Refused,
+            13 => Decrypted::TagDiffers,
+            result => panic!("decryption answers 0, 1 or 13, not {result}"),
+        }
+    }
+
+    fn call(self, call: ffi::Aead, text: &[u8], out: &mut [u8]) -> u32 {
+        // SAFETY: as in `hash`.
+        unsafe {
+            call(
+                self.suite,
+                self.key.as_ptr(),
+                self.key.len(),
+                self.nonce.as_ptr(),
+                self.nonce.len(),
+                self.header.as_ptr(),
+                self.header.len(),
+                self.metadata.as_ptr(),
+                self.metadata.len(),
+                text.as_ptr(),
+                text.len(),
+                out.as_mut_ptr(),
+                out.len(),
+            )
+        }
     }
 }
 

@@ -151,6 +151,16 @@ fn hkdf_to_every_length() {
                 assert_eq!(okm, by_name::hkdf(name, &ikm, &info, length));
             }
         }
-        check_refused(65, |room| hkdf(name, b"ikm", b"info", room));
+    }
+}
+
+/// RFC 5869: at most 255 times the hash's length.
+#[test]
+fn hkdf_to_the_longest_length() {
+    for (name, longest) in [(Hash::Sha256, 255 * 32), (Hash::Sha512, 255 * 64)] {
+        let mut okm = vec![0; longest];
+        assert!(hkdf(name, b"ikm", b"info", &mut okm));
+        assert_eq!(okm, by_name::hkdf(name, b"ikm", b"info", longest));
+        check_refused(longest + 1, |room| hkdf(name, b"ikm", b"info", room));
     }
 }

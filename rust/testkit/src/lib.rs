@@ -10,5 +10,5 @@ mod vectors;
 
 pub use generator::Generator;
 pub use hex::{hex, number};
-pub use room::{check_output, check_refused, PATTERN};
+pub use room::{check_filled, check_output, check_refused, PATTERN};
 pub use vectors::{aead_vectors, header_vectors, sframe_vectors, Case, HeaderVector};

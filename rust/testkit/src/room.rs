@@ -23,6 +23,19 @@ pub fn check_output(expected: &[u8], call: impl Fn(&mut [u8]) -> bool) {
     }
 }
 
+/// Checks that `call` fills a room of just the right length with `expected`, and
+/// that it refuses one a byte shorter or longer and leaves it as it was.
+#[track_caller]
+pub fn check_filled(expected: &[u8], call: impl Fn(&mut [u8]) -> bool) {
+    let mut room = vec![PATTERN; expected.len()];
+    assert!(call(&mut room), "refused");
+    assert_eq!(room, expected);
+    check_refused(expected.len() + 1, &call);
+    if let Some(short) = expected.len().checked_sub(1) {
+        check_refused(short, call);
+    }
+}
+
 /// Checks that `call` refuses and leaves a room of `length` bytes as it was.
 #[track_caller]
 pub fn check_refused(length: usize, call: impl Fn(&mut [u8]) -> bool) {

@@ -1,0 +1,93 @@
+-- A store from making to making: a list of calls on the store that a Make leaves, and what it yields.
+-- Assumes nothing.
+use mathlib.Core.List.{List, [], _∷_}
+use Prim.Native.Nat.{ℕ, _^_, _<_}
+use lib.Dec.{eqb}
+use lib.ListN.{take}
+use Rattle.octets.specs.Octets.{Octets}
+use Rattle.header.specs.Header.{pick}
+use Rattle.store.specs.Answers.{Outcome}
+use Rattle.store.specs.Calls.{make, add, remove}
+use Rattle.store.specs.Cipher.{Cipher}
+use Rattle.store.specs.declared.Role.{Role}
+use Rattle.sframe.specs.Calls.{seal, opening}
+
+-- A call with its inputs and its room.
+pub data Call : Type 0 where
+  -- role, KID, suite, base key
+  Add : Role → ℕ → ℕ → List ℕ → Call
+  -- KID
+  Remove : ℕ → Call
+  -- KID, metadata, plaintext, room
+  Seal : ℕ → List ℕ → List ℕ → List ℕ → Call
+  -- metadata, frame, room
+  Open : List ℕ → List ℕ → List ℕ → Call
+
+-- The inputs are what the types of the code admit: a KID has 64 bits, everything lent is bytes.
+abbrev pub Typed : Call → Type 0
+Typed (Add role kid suite base) = (kid < 2 ^ 64) × Octets base
+Typed (Remove kid) = kid < 2 ^ 64
+Typed (Seal kid metadata plaintext room) = (kid < 2 ^ 64) × Octets metadata × Octets plaintext × Octets room
+Typed (Open metadata frame room) = Octets metadata × Octets frame × Octets room
+
+-- The room that a call is lent.
+abbrev pub roomOf : Call → List ℕ
+roomOf (Add role kid suite base) = []
+roomOf (Remove kid) = []
+roomOf (Seal kid metadata plaintext room) = room
+roomOf (Open metadata frame room) = room
+
+abbrev pub AllTyped : List Call → Type 0
+AllTyped [] = Unit {0}
+AllTyped (c ∷ cs) = Typed c × AllTyped cs
+
+-- An Add that answered 0.
+pub record Adding : Type 0 where
+  pub role : Role
+  pub kid : ℕ
+  pub suite : ℕ
+  pub base : List ℕ
+
+-- A Seal that answered 0, with the bytes that it wrote as its result: a "sealed frame".
+pub record Sealing : Type 0 where
+  pub metadata : List ℕ
+  pub plaintext : List ℕ
+  pub frame : List ℕ
+
+-- What a call yields; every refused call, every Remove and every Open is one of the others.
+pub data Event : Type 0 where
+  added : Adding → Event
+  sealed : Sealing → Event
+  other : Event
+
+unfoldable pub event : Call → Outcome → Event
+event (Add role kid suite base) o = pick (eqb (o .number) 0) (added (record { role = role; kid = kid; suite = suite; base = base })) other
+event (Remove kid) o = other
+event (Seal kid metadata plaintext room) o = pick (eqb (o .number) 0) (sealed (record { metadata = metadata; plaintext = plaintext; frame = take (o .written) (o .room) })) other
+event (Open metadata frame room) o = other
+
+-- The store, and the events so far, the newest first.
+pub record History : Type 0 where
+  pub store : List ℕ
+  pub log : List Event
+
+module _ (cipher : Cipher) where
+  unfoldable pub outcome : Call → List ℕ → Outcome
+  outcome (Add role kid suite base) s = add cipher s role kid suite base
+  outcome (Remove kid) s = remove s kid
+  outcome (Seal kid metadata plaintext room) s = seal cipher s kid metadata plaintext room
+  outcome (Open metadata frame room) s = opening cipher s metadata frame room
+
+  unfoldable pub step : Call → History → History
+  step c h =
+      let o = outcome c (h .store) in
+      record { store = o .store; log = event c o ∷ h .log }
+
+  -- The calls of a list, the first of them first.
+  unfoldable pub run : List Call → History → History
+  run [] h = h
+  run (c ∷ cs) h = run cs (step c h)
+
+-- What a Make on the bytes s leaves.
+unfoldable pub start : List ℕ → History
+start s = record { store = make s .store; log = [] }

@@ -1,0 +1,32 @@
+-- `sframe_test::cipher_suites::derive_known` meets its contract: the tests leave what the derivation requires, and a refusal changes nothing.
+-- Assumes nothing.
+use mathlib.Core.Path.{refl}
+use mathlib.Core.Logic.{inl, inr}
+use borrow.Author.Needs.{needs}
+use Rattle.sframe_test.proofs.cipher_suites.derive_known.Statement.{statement}
+use Rattle.sframe_test.proofs.cipher_suites.derive_known.Tie as tie
+
+returns : tie.Need-returns
+returns c = inr (refl, refl, refl)
+
+returns-2 : tie.Need-returns-2
+returns-2 c = inr (refl, refl, refl)
+
+returns-3 : tie.Need-returns-3
+returns-3 c = inr (refl, refl, refl)
+
+returns-4 : tie.Need-returns-4
+returns-4 c = inl (refl, c .before .before .before .before .derive .ensures .0, c .before .before .before .before .derive .ensures .1)
+
+pub derive-known-spec : {M : Type 1} → statement M
+derive-known-spec =
+    tie.close
+    (tie.spec
+    returns
+    (λ c κs. search needs)
+    returns-2
+    returns-3
+    (λ c κs. search needs)
+    (λ c. search needs)
+    (λ c. search needs)
+    returns-4)

@@ -1,0 +1,31 @@
+-- `sframe_test::cipher_suites::sframe_test_derive` meets its contract: what it answers for a known suite is handed on.
+-- Assumes nothing.
+use mathlib.Core.Path.{refl, sym, _∙_}
+use mathlib.Core.Logic.{_⊎_, inl, inr}
+use borrow.Author.Needs.{needs}
+use Rattle.sframe_test.proofs.cipher_suites.sframe_test_derive.Statement.{statement}
+use Rattle.sframe_test.proofs.cipher_suites.sframe_test_derive.Tie as tie
+
+-- the first case, changed
+first : {A B C : Type 0} → (A → C) → A ⊎ B → C ⊎ B
+first f (inl a) = inl (f a)
+first f (inr b) = inr b
+
+returns : tie.Need-returns
+returns c = first (λ x. (x .0, (_, sym (c .before .before .before .before .before .before .before .before .before .before .find .ensures) ∙ c .before .before .before .before .before .before .before .before .s .given .1, x .1, x .2))) (c .before .before .before .before .derive-known .ensures)
+
+returns-2 : tie.Need-returns-2
+returns-2 c = inr (refl, refl, refl)
+
+pub sframe-test-derive-spec : {M : Type 1} → statement M
+sframe-test-derive-spec =
+    tie.close
+    (tie.spec
+    (λ c κs. search needs)
+    (λ c. search needs)
+    (λ c κs. search needs)
+    (λ c. search needs)
+    (λ c. search needs)
+    (λ c. search needs)
+    returns
+    returns-2)
