@@ -1,6 +1,8 @@
+mod AddSteps
 mod Frames
 mod Ledger
 pub mod Neighbours
+mod OpenSteps
 pub mod Opens
 mod SealSteps
 pub mod Seals

@@ -371,7 +371,7 @@ module _ (s : List ℕ) (kid i : ℕ) (here : Placed s kid i) where
         ∙ ap (λ (x : List ℕ). take 80 (drop (i * 80) x)) (sym (here .stored .bytes-are))
         ∙ encode-at (records s) i (here .stored .table .fit) (here .found .0)
 
-    row-decode : decode l ≡ held
+    pub row-decode : decode l ≡ held
     row-decode = ap decode row-is ∙ decode-encode held held-fit
 
     pub row-size : length l ≡ 80

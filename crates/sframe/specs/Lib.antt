@@ -3,3 +3,5 @@ pub mod Calls
 pub mod History
 pub mod Promises
 pub mod Sframe
+pub mod Opening
+pub mod Adding

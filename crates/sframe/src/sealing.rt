@@ -57,7 +57,7 @@ const INPUT_TOO_LONG: u32 = 9;
 const ROOM_SHORT: u32 = 12;
 
 // Whether a plaintext of that length, or metadata of that length, is too long.
-fn too_long(plaintext: usize, metadata: usize) -> bool
+pub fn too_long(plaintext: usize, metadata: usize) -> bool
     ensures { λ r. ⌜ r ≡ tooLong plaintext metadata ⌝ }
 {
     if MAX_PLAINTEXT < plaintext {
@@ -67,7 +67,7 @@ fn too_long(plaintext: usize, metadata: usize) -> bool
 }
 
 // The suite of a record's bytes.
-fn suite_in(row: &[u8]) -> Suite
+pub fn suite_in(row: &[u8]) -> Suite
     requires { ⌜ (length (now row) ≡ 80) × (isSuite (getD (now row) 1 0) ≡ true) ⌝ }
     ensures { λ r. ⌜ suiteOf (getD (now (row .entry)) 1 0) ≡ Known r ⌝ }
 {

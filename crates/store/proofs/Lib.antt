@@ -1,4 +1,4 @@
-mod Addition
+pub mod Addition
 pub mod Basics
 pub mod CipherLaws
 pub mod Codec

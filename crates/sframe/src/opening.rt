@@ -1,0 +1,151 @@
+// Opening a frame. Each step takes its answer apart, or leaves at once with that step's refusal; the causes are tried in
+// the order 1, 10, 6, 7, 11, 9, 12, 13.
+ghost use mathlib.Core.Path.{_≡_};
+ghost use mathlib.Core.Bool.{true, false};
+ghost use mathlib.Core.List.{[], _++_};
+ghost use Prim.Native.Nat.{_+_, _-_, _≤_, _<_};
+ghost use lib.ListN.{length, take, drop};
+ghost use Rattle.header.specs.declared.Reading.the-variants.{Header};
+ghost use Rattle.store.specs.Record.{decode, obeys};
+ghost use Rattle.store.specs.Table.{isEmpty};
+ghost use Rattle.suites.specs.Suites.{Nk, Nt};
+ghost use Rattle.suites.specs.Derivation.{nonce};
+ghost use Rattle.suites.specs.Aead.{decrypt, isPlain, roomAfter};
+ghost use Rattle.sframe.specs.Calls.{openAt, opening};
+ghost use Rattle.sframe.specs.Opening.{roomFor};
+ghost use Rattle.sframe.specs.Sframe.{sframe};
+use crate::Answer;
+use crate::refused;
+use crate::sealing::suite_in;
+use crate::sealing::too_long;
+use header::Ctr;
+use header::Kid;
+use header::Reading;
+use store::DONE;
+use store::KID_MISSING;
+use store::Place;
+use store::RECORD_SIZE;
+use store::ROLE_REFUSED;
+use store::STORE_INVALID;
+use suites::Suite;
+
+// Where the fields of a record stand.
+const SALT: usize = 20;
+
+const KEY: usize = 32;
+
+// Byte 0 of a receiving record.
+const RECEIVING: u8 = 2;
+
+// The numbers of the answers that the store does not give.
+const INPUT_TOO_LONG: u32 = 9;
+
+const HEADER_INVALID: u32 = 10;
+
+const FRAME_SHORT: u32 = 11;
+
+const ROOM_SHORT: u32 = 12;
+
+const TAG_DIFFERS: u32 = 13;
+
+// Whether a room takes so many bytes.
+enum Room {
+    Enough(usize),
+    Short,
+}
+
+// Decrypts what follows the first n bytes of a frame with the key and salt of a receiving record.
+fn decrypt_with(
+    row: &[u8],
+    suite: Suite,
+    ctr: Ctr,
+    n: usize,
+    metadata: &[u8],
+    frame: &[u8],
+    room: &mut [u8],
+) -> bool
+    requires { ⌜ (length (now row) ≡ 80) × (n ≤ 17) × (n + Nt suite ≤ length (now frame)) ⌝ }
+    requires { ⌜ (length (now metadata) ≤ 1024) × (length (now frame) - n - Nt suite ≤ 32768) × (length (now frame) - n - Nt suite ≤ length (now room)) ⌝ }
+    ensures { λ r. ⌜ r ≡ isPlain (decrypt suite (take (Nk suite) (drop 32 (now (row .entry)))) (nonce (take 12 (drop 20 (now (row .entry)))) (ctr .0)) (take n (now (frame .entry)) ++ now (metadata .entry)) (drop n (now (frame .entry)))) ⌝ }
+    ensures { λ _. ⌜ now (room .exit) ≡ roomAfter (decrypt suite (take (Nk suite) (drop 32 (now (row .entry)))) (nonce (take 12 (drop 20 (now (row .entry)))) (ctr .0)) (take n (now (frame .entry)) ++ now (metadata .entry)) (drop n (now (frame .entry)))) (now (room .entry)) ⌝ }
+{
+    let nonce = suites::derivation::nonce_of(&row[SALT..KEY], ctr);
+    let end = KEY + suite.key_size();
+    suites::aead::decrypt(
+        suite,
+        &row[KEY..end],
+        &nonce,
+        &frame[0..n],
+        metadata,
+        &frame[n..],
+        room,
+    )
+}
+
+// Whether a room of that length takes n bytes.
+fn room_for(room: usize, n: usize) -> Room
+    ensures { λ r. ⌜ r ≡ roomFor room n ⌝ }
+{
+    if room < n {
+        return Room::Short;
+    }
+    Room::Enough(n)
+}
+
+// Opens a frame, whose header of n bytes has been read, with the record that holds its KID.
+fn open_with(
+    row: &[u8],
+    kid: Kid,
+    ctr: Ctr,
+    n: usize,
+    metadata: &[u8],
+    frame: &[u8],
+    room: &mut [u8],
+) -> Answer
+    requires { ⌜ (length (now row) ≡ 80) × (obeys (now row) ≡ true) × (isEmpty (decode (now row)) ≡ false) × (n ≤ 17) × (n ≤ length (now frame)) ⌝ }
+    ensures { λ r. ⌜ (r .number ≡ openAt sframe true (Header kid ctr n) (decode (now (row .entry))) [] (now (metadata .entry)) (now (frame .entry)) (now (room .entry)) .number) × (r .length ≡ openAt sframe true (Header kid ctr n) (decode (now (row .entry))) [] (now (metadata .entry)) (now (frame .entry)) (now (room .entry)) .written) ⌝ }
+    ensures { λ _. ⌜ now (room .exit) ≡ openAt sframe true (Header kid ctr n) (decode (now (row .entry))) [] (now (metadata .entry)) (now (frame .entry)) (now (room .entry)) .room ⌝ }
+{
+    if row[0] != RECEIVING {
+        return refused(ROLE_REFUSED);
+    }
+    let suite = suite_in(row);
+    let nt = suite.tag_size();
+    let rest = frame.len() - n;
+    if rest < nt {
+        return refused(FRAME_SHORT);
+    }
+    let m = rest - nt;
+    if too_long(m, metadata.len()) {
+        return refused(INPUT_TOO_LONG);
+    }
+    let Room::Enough(length) = room_for(room.len(), m) else {
+        return refused(ROOM_SHORT);
+    };
+    if !decrypt_with(row, suite, ctr, n, metadata, frame, room) {
+        return refused(TAG_DIFFERS);
+    }
+    Answer {
+        number: DONE,
+        length,
+    }
+}
+
+// Opens a frame: the plaintext stands at the start of the room. Nothing changes in the store.
+pub fn open(store: &[u8], frame: &[u8], metadata: &[u8], room: &mut [u8]) -> Answer
+    ensures { λ r. ⌜ (r .number ≡ opening sframe (now (store .entry)) (now (metadata .entry)) (now (frame .entry)) (now (room .entry)) .number) × (r .length ≡ opening sframe (now (store .entry)) (now (metadata .entry)) (now (frame .entry)) (now (room .entry)) .written) ⌝ }
+    ensures { λ _. ⌜ now (room .exit) ≡ opening sframe (now (store .entry)) (now (metadata .entry)) (now (frame .entry)) (now (room .entry)) .room ⌝ }
+{
+    if !store::is_sound(store) {
+        return refused(STORE_INVALID);
+    }
+    let Reading::Header(kid, ctr, n) = header::read_header(frame) else {
+        return refused(HEADER_INVALID);
+    };
+    let Place::At(i) = store::find(store, kid) else {
+        return refused(KID_MISSING);
+    };
+    let at = i * RECORD_SIZE;
+    let end = at + RECORD_SIZE;
+    open_with(&store[at..end], kid, ctr, n, metadata, frame, room)
+}
