@@ -37,7 +37,8 @@ fn derive_known(suite: Suite, base: &[u8], kid: u64, key: &mut [u8], salt: &mut 
     if salt.len() != NN {
         return 1;
     }
-    suites::derivation::derive(suite, base, Kid(kid), key, salt);
+    suites::derivation::derive_key(suite, base, Kid(kid), key);
+    suites::derivation::derive_salt(suite, base, Kid(kid), salt);
     0
 }
 

@@ -54,15 +54,19 @@ pub nonce-made : (y c n r t : List ℕ) (ctr : ℕ) → length t ≡ Nn → leng
 unfolding nonce
 nonce-made y c n r t ctr h hy p q e = e ∙ ap₂ xors (q ∙ front-all t y (length t) (omega arith)) (p ∙ append-nil (bytes Nn ctr))
 
--- a derivation with the suite's hash
-module _ (p : Params) (s : Suite) (base e : List ℕ) (kid : ℕ) (is : hashOf s ≡ p) (extracted : e ≡ extract p [] base) where
-  pub key-derived : (l r : List ℕ) (n : ℕ) → l ≡ label secretKey s kid → n ≡ Nk s → r ≡ expand p e l n → r ≡ sframeKey s base kid
-  unfolding sframeKey secret
-  key-derived l r n f h w = rw (w, is, extracted, f, h)
+-- what is expanded with the suite's hash
+pub expanded : (p : Params) (s : Suite) (base e l r : List ℕ) (n : ℕ) → hashOf s ≡ p → e ≡ extract p [] base → r ≡ expand p e l n → r ≡ expand (hashOf s) (secret s base) l n
+unfolding secret
+expanded p s base e l r n is x w = rw (w, is, x)
 
-  pub salt-derived : (l r : List ℕ) (n : ℕ) → l ≡ label secretSalt s kid → n ≡ Nn → r ≡ expand p e l n → r ≡ sframeSalt s base kid
-  unfolding sframeSalt secret
-  salt-derived l r n f h w = rw (w, is, extracted, f, h)
+-- what is expanded under its label
+pub key-derived : (s : Suite) (base l r : List ℕ) (kid n : ℕ) → l ≡ label secretKey s kid → n ≡ Nk s → r ≡ expand (hashOf s) (secret s base) l n → r ≡ sframeKey s base kid
+unfolding sframeKey
+key-derived s base l r kid n e h w = rw (w, e, h)
+
+pub salt-derived : (s : Suite) (base l r : List ℕ) (kid n : ℕ) → l ≡ label secretSalt s kid → n ≡ Nn → r ≡ expand (hashOf s) (secret s base) l n → r ≡ sframeSalt s base kid
+unfolding sframeSalt
+salt-derived s base l r kid n e h w = rw (w, e, h)
 
 -- three numbers of 8 bytes written one after the other fill 24 bytes
 pub lengths-written : (o a b r : List ℕ) (x y z : ℕ) → length o ≡ 24 → a ≡ pasted o 0 (bytes 8 x) → b ≡ pasted a 8 (bytes 8 y) → r ≡ pasted b 16 (bytes 8 z)

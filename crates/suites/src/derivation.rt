@@ -3,9 +3,11 @@ ghost use mathlib.Core.Path.{_≡_};
 ghost use Prim.Native.Nat.{_+_, _≤_};
 ghost use lib.ListN.{length};
 ghost use Rattle.sha2.specs.Sizes.{sha256, sha512};
+ghost use Rattle.hmac.specs.Hkdf.{limit, expand};
 ghost use Rattle.hmac.specs.Running.{largest};
 ghost use Rattle.suites.specs.Suites.{Nk, Nn, hashOf};
-ghost use Rattle.suites.specs.Derivation.{label, sframeKey, sframeSalt, nonce, secretKey, secretSalt};
+ghost use Rattle.suites.specs.Derivation.{secret, label, sframeKey, sframeSalt, nonce, secretKey, secretSalt};
+use crate::sizes::Aes128CtrHmacSha256Tag80;
 use crate::sizes::Suite;
 use header::Ctr;
 use header::Kid;
@@ -14,6 +16,9 @@ use header::Kid;
 const KID_SIZE: usize = 8;
 
 const NUMBER_SIZE: usize = 2;
+
+// The bytes of the nonce and of the salt, the same in every suite.
+const NN: usize = Aes128CtrHmacSha256Tag80::NN;
 
 // Writes the label of a derivation: the text, the KID and the suite's number.
 fn write_label(out: &mut [u8], text: &[u8], suite: Suite, kid: Kid)
@@ -44,58 +49,67 @@ fn salt_label(suite: Suite, kid: Kid) -> [u8; 33]
 }
 
 // The nonce of a counter under a salt.
-pub fn nonce_of(salt: &[u8], ctr: Ctr) -> [u8; 12]
+pub fn nonce_of(salt: &[u8], ctr: Ctr) -> [u8; NN]
     requires { ⌜ length (now salt) ≡ Nn ⌝ }
     ensures { λ r. ⌜ (r ≡ nonce (now (salt .entry)) (ctr .0)) × (length r ≡ Nn) ⌝ }
 {
-    let mut counter = [0u8; 12];
-    octets::write_be(&mut counter, 12, ctr.0);
-    let mut n = [0u8; 12];
+    let mut counter = [0u8; NN];
+    octets::write_be(&mut counter, NN, ctr.0);
+    let mut n = [0u8; NN];
     octets::copy(&mut n, salt);
     octets::xor(&mut n, &counter);
     n
 }
 
-// Fills key and salt from the base key, for a suite with SHA-256.
-fn derive_sha256(suite: Suite, base: &[u8], kid: Kid, key: &mut [u8], salt: &mut [u8])
-    requires { ⌜ (hashOf suite ≡ sha256) × (length (now base) ≤ largest) ⌝ }
-    requires { ⌜ (length (now key) ≡ Nk suite) × (length (now salt) ≡ Nn) ⌝ }
-    ensures { λ _. ⌜ now (key .exit) ≡ sframeKey suite (now (base .entry)) (kid .0) ⌝ }
-    ensures { λ _. ⌜ now (salt .exit) ≡ sframeSalt suite (now (base .entry)) (kid .0) ⌝ }
+// Fills out from the base key under a label, for a suite with SHA-256.
+fn expand_sha256(suite: Suite, base: &[u8], info: &[u8], out: &mut [u8])
+    requires { ⌜ (hashOf suite ≡ sha256) × (length (now out) ≤ limit sha256) ⌝ }
+    requires { ⌜ (length (now base) ≤ largest) × (length (now info) ≤ largest) ⌝ }
+    ensures { λ _. ⌜ now (out .exit) ≡ expand (hashOf suite) (secret suite (now (base .entry))) (now (info .entry)) (length (now (out .entry))) ⌝ }
 {
     let secret = hmac::hkdf_extract_sha256(b"", base);
-    let for_key = key_label(suite, kid);
-    hmac::hkdf_expand_sha256(&secret, &for_key, key);
-    let for_salt = salt_label(suite, kid);
-    hmac::hkdf_expand_sha256(&secret, &for_salt, salt);
+    hmac::hkdf_expand_sha256(&secret, info, out);
 }
 
 // The same for a suite with SHA-512.
-fn derive_sha512(suite: Suite, base: &[u8], kid: Kid, key: &mut [u8], salt: &mut [u8])
-    requires { ⌜ (hashOf suite ≡ sha512) × (length (now base) ≤ largest) ⌝ }
-    requires { ⌜ (length (now key) ≡ Nk suite) × (length (now salt) ≡ Nn) ⌝ }
-    ensures { λ _. ⌜ now (key .exit) ≡ sframeKey suite (now (base .entry)) (kid .0) ⌝ }
-    ensures { λ _. ⌜ now (salt .exit) ≡ sframeSalt suite (now (base .entry)) (kid .0) ⌝ }
+fn expand_sha512(suite: Suite, base: &[u8], info: &[u8], out: &mut [u8])
+    requires { ⌜ (hashOf suite ≡ sha512) × (length (now out) ≤ limit sha512) ⌝ }
+    requires { ⌜ (length (now base) ≤ largest) × (length (now info) ≤ largest) ⌝ }
+    ensures { λ _. ⌜ now (out .exit) ≡ expand (hashOf suite) (secret suite (now (base .entry))) (now (info .entry)) (length (now (out .entry))) ⌝ }
 {
     let secret = hmac::hkdf_extract_sha512(b"", base);
-    let for_key = key_label(suite, kid);
-    hmac::hkdf_expand_sha512(&secret, &for_key, key);
-    let for_salt = salt_label(suite, kid);
-    hmac::hkdf_expand_sha512(&secret, &for_salt, salt);
+    hmac::hkdf_expand_sha512(&secret, info, out);
 }
 
-// Fills key and salt with what the suite derives from the base key for a KID.
-pub fn derive(suite: Suite, base: &[u8], kid: Kid, key: &mut [u8], salt: &mut [u8])
-    requires { ⌜ length (now base) ≤ largest ⌝ }
-    requires { ⌜ (length (now key) ≡ Nk suite) × (length (now salt) ≡ Nn) ⌝ }
-    ensures { λ _. ⌜ now (key .exit) ≡ sframeKey suite (now (base .entry)) (kid .0) ⌝ }
-    ensures { λ _. ⌜ now (salt .exit) ≡ sframeSalt suite (now (base .entry)) (kid .0) ⌝ }
+// The same for every suite.
+fn expand_label(suite: Suite, base: &[u8], info: &[u8], out: &mut [u8])
+    requires { ⌜ length (now out) ≤ limit sha256 ⌝ }
+    requires { ⌜ (length (now base) ≤ largest) × (length (now info) ≤ largest) ⌝ }
+    ensures { λ _. ⌜ now (out .exit) ≡ expand (hashOf suite) (secret suite (now (base .entry))) (now (info .entry)) (length (now (out .entry))) ⌝ }
 {
     match suite {
-        Suite::Ctr80 => derive_sha256(suite, base, kid, key, salt),
-        Suite::Ctr64 => derive_sha256(suite, base, kid, key, salt),
-        Suite::Ctr32 => derive_sha256(suite, base, kid, key, salt),
-        Suite::Gcm128 => derive_sha256(suite, base, kid, key, salt),
-        Suite::Gcm256 => derive_sha512(suite, base, kid, key, salt),
+        Suite::Ctr80 => expand_sha256(suite, base, info, out),
+        Suite::Ctr64 => expand_sha256(suite, base, info, out),
+        Suite::Ctr32 => expand_sha256(suite, base, info, out),
+        Suite::Gcm128 => expand_sha256(suite, base, info, out),
+        Suite::Gcm256 => expand_sha512(suite, base, info, out),
     }
+}
+
+// Fills key with what the suite derives from the base key for a KID.
+pub fn derive_key(suite: Suite, base: &[u8], kid: Kid, key: &mut [u8])
+    requires { ⌜ (length (now base) ≤ largest) × (length (now key) ≡ Nk suite) ⌝ }
+    ensures { λ _. ⌜ now (key .exit) ≡ sframeKey suite (now (base .entry)) (kid .0) ⌝ }
+{
+    let info = key_label(suite, kid);
+    expand_label(suite, base, &info, key);
+}
+
+// Fills salt likewise.
+pub fn derive_salt(suite: Suite, base: &[u8], kid: Kid, salt: &mut [u8])
+    requires { ⌜ (length (now base) ≤ largest) × (length (now salt) ≡ Nn) ⌝ }
+    ensures { λ _. ⌜ now (salt .exit) ≡ sframeSalt suite (now (base .entry)) (kid .0) ⌝ }
+{
+    let info = salt_label(suite, kid);
+    expand_label(suite, base, &info, salt);
 }

@@ -16,7 +16,7 @@ returns-3 : tie.Need-returns-3
 returns-3 c = inr (refl, refl, refl)
 
 returns-4 : tie.Need-returns-4
-returns-4 c = inl (refl, c .before .before .before .before .derive .ensures .0, c .before .before .before .before .derive .ensures .1)
+returns-4 c = inl (refl, c .before .before .before .before .before .before .derive-key .ensures, c .before .before .derive-salt .ensures)
 
 pub derive-known-spec : {M : Type 1} → statement M
 derive-known-spec =
@@ -26,6 +26,7 @@ derive-known-spec =
     (λ c κs. search needs)
     returns-2
     returns-3
+    (λ c κs. search needs)
     (λ c κs. search needs)
     (λ c. search needs)
     (λ c. search needs)

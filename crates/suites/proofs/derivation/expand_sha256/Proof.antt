@@ -1,0 +1,21 @@
+use borrow.Author.Needs.{needs}
+use Rattle.sha2.specs.Sizes.{sha256}
+use Rattle.suites.proofs.Steps.{expanded}
+use Rattle.suites.proofs.derivation.expand_sha256.Statement.{statement}
+use Rattle.suites.proofs.derivation.expand_sha256.Tie as tie
+
+returns : tie.Need-returns
+returns c =
+    let s = c .before .before .before .before .before .before .before .before .before .before in
+    expanded sha256 (s .args .suite) _ _ _ _ _ (s .pre .0 .0) (c .before .before .before .before .before .hkdf-extract-sha256 .ensures .0) (c .before .before .hkdf-expand-sha256 .ensures)
+
+pub expand-sha256-spec : {M : Type 1} → statement M
+expand-sha256-spec =
+    tie.close
+    (tie.spec
+    (λ c. search needs)
+    (λ c κs. search needs)
+    (λ c. search needs)
+    (λ c κs. search needs)
+    (λ c. search needs)
+    returns)
