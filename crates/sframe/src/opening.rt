@@ -15,6 +15,11 @@ ghost use Rattle.sframe.specs.Calls.{openAt, opening};
 ghost use Rattle.sframe.specs.Opening.{roomFor};
 ghost use Rattle.sframe.specs.Sframe.{sframe};
 use crate::Answer;
+use crate::FRAME_SHORT;
+use crate::HEADER_INVALID;
+use crate::INPUT_TOO_LONG;
+use crate::ROOM_SHORT;
+use crate::TAG_DIFFERS;
 use crate::refused;
 use crate::sealing::suite_in;
 use crate::sealing::too_long;
@@ -22,31 +27,15 @@ use header::Ctr;
 use header::Kid;
 use header::Reading;
 use store::DONE;
+use store::KEY;
 use store::KID_MISSING;
 use store::Place;
+use store::RECEIVING;
 use store::RECORD_SIZE;
 use store::ROLE_REFUSED;
+use store::SALT;
 use store::STORE_INVALID;
 use suites::Suite;
-
-// Where the fields of a record stand.
-const SALT: usize = 20;
-
-const KEY: usize = 32;
-
-// Byte 0 of a receiving record.
-const RECEIVING: u8 = 2;
-
-// The numbers of the answers that the store does not give.
-const INPUT_TOO_LONG: u32 = 9;
-
-const HEADER_INVALID: u32 = 10;
-
-const FRAME_SHORT: u32 = 11;
-
-const ROOM_SHORT: u32 = 12;
-
-const TAG_DIFFERS: u32 = 13;
 
 // Whether a room takes so many bytes.
 enum Room {

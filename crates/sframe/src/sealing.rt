@@ -1,16 +1,25 @@
 // Sealing a frame.
 use crate::Answer;
+use crate::COUNTER_SPENT;
+use crate::INPUT_TOO_LONG;
 use crate::MAX_METADATA;
 use crate::MAX_PLAINTEXT;
+use crate::ROOM_SHORT;
 use header::Ctr;
 use header::Kid;
 use header::Written;
+use store::CEILING;
+use store::COUNTER;
 use store::DONE;
+use store::KEY;
 use store::KID_MISSING;
 use store::Place;
 use store::RECORD_SIZE;
 use store::ROLE_REFUSED;
+use store::SALT;
+use store::SENDING;
 use store::STORE_INVALID;
+use store::SUITE;
 use suites::sizes::Found;
 use suites::sizes::Suite;
 ghost use mathlib.Core.Path.{_≡_};
@@ -31,30 +40,8 @@ ghost use Rattle.suites.specs.Aead.{encrypt};
 ghost use Rattle.sframe.specs.Calls.{tooLong, sealCauses, nextFrame, seal};
 ghost use Rattle.sframe.specs.Sframe.{sframe};
 
-// Where the fields of a record stand.
-const SUITE: usize = 1;
-
-const COUNTER: usize = 12;
-
-const SALT: usize = 20;
-
-const KEY: usize = 32;
-
-// Byte 0 of a sending record.
-const SENDING: u8 = 1;
-
-// No counter reaches this.
-const CEILING: u64 = 0x100_0000_0000;
-
 // The longest header.
 const MAX_HEADER: usize = 17;
-
-// The numbers of the answers that the store does not give.
-const COUNTER_SPENT: u32 = 8;
-
-const INPUT_TOO_LONG: u32 = 9;
-
-const ROOM_SHORT: u32 = 12;
 
 // Whether a plaintext of that length, or metadata of that length, is too long.
 pub fn too_long(plaintext: usize, metadata: usize) -> bool

@@ -108,12 +108,12 @@ module _ (cipher : Cipher) (laws : Laws cipher) where
     pub add-step : (role : Role) (kid suite : ℕ) (base : List ℕ) → kid < 2 ^ 64 → Octets base → AddStep cipher s rs role kid suite base (add cipher s role kid suite base)
     unfolding addAt addCauses
     add-step role kid suite base h b =
-        rw (add-on role kid suite base) (by (addAt cipher true rs s role kid suite base) (settle (addCauses true (get kid rs) rs role suite base) s [] (stored (encodeAll (fill new rs))) refl))
+        rw (add-on role kid suite base) (by (addAt cipher true rs s role kid suite base) (settle (addCauses true (get kid rs) rs suite base) s [] (stored (encodeAll (fill new rs))) refl))
       where
         new : KeyRecord
         new = added cipher role kid suite base
 
-        by : (o : Outcome) → Settled (addCauses true (get kid rs) rs role suite base) s [] (stored (encodeAll (fill (added cipher role kid suite base) rs))) o → AddStep cipher s rs role kid suite base o
+        by : (o : Outcome) → Settled (addCauses true (get kid rs) rs suite base) s [] (stored (encodeAll (fill (added cipher role kid suite base) rs))) o → AddStep cipher s rs role kid suite base o
         by o (refusal d r) = refused (λ e. d (sym (r .number-is) ∙ e)) (r .store-stays)
         by o (success p q) =
             let known : isSuite suite ≡ true = not-false (isSuite suite) (p .1 .0) in

@@ -36,8 +36,8 @@ make s = settled (first ((storeInvalid if not (lengthRight (length s))) ∷ []))
 -- ---- Add
 
 -- held is the record that holds the KID
-unfoldable pub addCauses : Bool → KeyRecord → List KeyRecord → Role → ℕ → List ℕ → List Cause
-addCauses valid held rs role suite base =
+unfoldable pub addCauses : Bool → KeyRecord → List KeyRecord → ℕ → List ℕ → List Cause
+addCauses valid held rs suite base =
     (storeInvalid if not valid)
     ∷ (suiteUnknown if not (isSuite suite))
     ∷ (baseKeySize if not (both (leb baseKeyLeast (length base)) (leb (length base) baseKeyMost)))
@@ -53,7 +53,7 @@ added cipher Receiving kid suite base = receiving (record { suite = suite; kid =
 
 unfoldable pub addAt : Cipher → Bool → List KeyRecord → List ℕ → Role → ℕ → ℕ → List ℕ → Outcome
 addAt cipher valid rs s role kid suite base =
-    settled (first (addCauses valid (get kid rs) rs role suite base)) s [] (stored (encodeAll (fill (added cipher role kid suite base) rs)))
+    settled (first (addCauses valid (get kid rs) rs suite base)) s [] (stored (encodeAll (fill (added cipher role kid suite base) rs)))
 
 -- store, role, KID, suite, base key
 unfoldable pub add : Cipher → List ℕ → Role → ℕ → ℕ → List ℕ → Outcome

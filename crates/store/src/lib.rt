@@ -17,29 +17,29 @@ pub const RECORD_SIZE: usize = 80;
 pub const MAX_RECORDS: usize = 64;
 
 // Where the fields of a record stand.
-const SUITE: usize = 1;
+pub const SUITE: usize = 1;
 
 const RESERVED: usize = 2;
 
 const KID: usize = 4;
 
-const COUNTER: usize = 12;
+pub const COUNTER: usize = 12;
 
-const SALT: usize = 20;
+pub const SALT: usize = 20;
 
-const KEY: usize = 32;
+pub const KEY: usize = 32;
 
 // Byte 0 of a record.
 const EMPTY: u8 = 0;
 
-const SENDING: u8 = 1;
+pub const SENDING: u8 = 1;
 
-const RECEIVING: u8 = 2;
+pub const RECEIVING: u8 = 2;
 
 const RETIRED: u8 = 3;
 
 // No counter reaches this.
-const CEILING: u64 = 0x100_0000_0000;
+pub const CEILING: u64 = 0x100_0000_0000;
 
 // The numbers of the answers.
 pub const DONE: u32 = 0;
