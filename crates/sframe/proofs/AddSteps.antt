@@ -1,24 +1,28 @@
 -- The steps of adding a key, over plain variables. Assumes nothing.
 use mathlib.Core.Path.{_≡_, refl, sym, _∙_, ap}
-use mathlib.Core.Bool.{true, false}
-use mathlib.Core.List.{List, []}
-use Prim.Native.Nat.{ℕ, zero, suc, _+_, _*_, _-_, _<_, _≤_}
+use mathlib.Core.Bool.{Bool, true, false, not}
+use mathlib.Core.List.{List, [], _++_}
+use Prim.Native.Nat.{ℕ, zero, suc, _+_, _*_, _/_, _-_, _<_, _≤_}
 use native.Mathlib.Omega.{arith}
-use lib.ListN.{length, getD, take, drop, replicate}
+use lib.ListN.{length, getD, take, drop, replicate, length-replicate}
+use lib.Seq.{drop-drop}
+use borrow.Rule.Slice.PartMut.{putMid}
 use borrow.Author.Tests.{ne-eqb, le-leb, lt-leb}
-use Rattle.octets.specs.Octets.{pasted}
+use Rattle.octets.specs.Octets.{Octets, pasted}
 use Rattle.store.specs.Calls.{added}
 use Rattle.store.specs.Judging.{newRow}
 use Rattle.store.specs.Record.{empty, row, encode}
-use Rattle.store.specs.Store.{records}
+use Rattle.store.specs.Store.{decodeAll, records, sound}
 use Rattle.store.specs.Suites.{isSuite}
 use Rattle.store.specs.Table.{FreeIn}
+use Rattle.store.specs.declared.Place.{Place}
 use Rattle.store.specs.declared.Place.the-variants.{At}
 use Rattle.store.specs.declared.Role.{Role}
 use Rattle.store.specs.declared.Role.the-variants.{Sending, Receiving}
 use Rattle.store.proofs.Addition.{added-sending, added-receiving}
 use Rattle.store.proofs.Rows.{row-salted, row-keyed}
-use Rattle.store.proofs.Stores.{Stored, stored-length, encode-at}
+use Rattle.store.proofs.Basics.{told-true}
+use Rattle.store.proofs.Stores.{Stored, sound-stored, stored-length, encode-at}
 use Rattle.store.proofs.Tables.{empty-is}
 use Rattle.suites.specs.Suites.{suiteOf, numberOf, Nk}
 use Rattle.suites.specs.Derivation.{sframeKey, sframeSalt}
@@ -78,19 +82,29 @@ suite-unnamed (suc (suc (suc (suc (suc (suc n)))))) e = rw (le-leb 1 (suc (suc (
 
 -- ---- the new record
 
+-- an empty record's bytes have a record's size
+pub empty-size : (l : List ℕ) → l ≡ replicate 80 0 → length l ≡ 80
+empty-size l e = ap length e ∙ length-replicate {A = ℕ} 80 0
+
 marked : (role : Role) (kid suite : ℕ) (base : List ℕ) → newRow (markFor role) suite kid (saltFor suite base kid) (keyFor suite base kid) ≡ encode (added sframe role kid suite base)
 marked Sending kid suite base = added-sending sframe kid suite base
 marked Receiving kid suite base = added-receiving sframe kid suite base
 
-pub row-filled : (role : Role) (s : Suite) (kid mark suite : ℕ) (base salt key a b c : List ℕ) → mark ≡ markFor role → suite ≡ numberOf s
-    → salt ≡ sframeSalt s base kid → key ≡ sframeKey s base kid
-    → a ≡ newRow mark suite kid (replicate 12 0) [] → b ≡ pasted a 20 salt → c ≡ pasted b 32 key → c ≡ encode (added sframe role kid (numberOf s) base)
+-- what fills the whole of a part that is lent is pasted where the part begins
+part-filled : (l x : List ℕ) (i k : ℕ) → length x ≡ k → putMid i k l x ≡ pasted l i x
+unfolding pasted
+part-filled l x i k e = ap (λ (t : List ℕ). take i l ++ (x ++ t)) (drop-drop k i l ∙ ap (λ (j : ℕ). drop (i + j) l) (sym e))
+
+pub row-filled : (role : Role) (s : Suite) (kid mark suite : ℕ) (base salt key a b c : List ℕ) (end : ℕ) → mark ≡ markFor role → suite ≡ numberOf s
+    → salt ≡ sframeSalt s base kid → key ≡ sframeKey s base kid → end ≡ 32 + Nk s
+    → a ≡ newRow mark suite kid (replicate 12 0) [] → b ≡ putMid 20 (32 - 20) a salt → c ≡ putMid 32 (end - 32) b key → c ≡ encode (added sframe role kid (numberOf s) base)
 unfolding keyFor saltFor
-row-filled role s kid mark suite base salt key a b c m n p q x y z =
+row-filled role s kid mark suite base salt key a b c end m n p q f x y z =
     let ls : length salt ≡ 12 = ap length p ∙ salt-length s base kid in
     let lk : length key ≡ Nk s = ap length q ∙ key-length s base kid in
-    let one : b ≡ row mark suite kid 0 salt [] = y ∙ ap (λ (t : List ℕ). pasted t 20 salt) x ∙ row-salted mark suite kid 0 salt ls in
-    let two : c ≡ row mark suite kid 0 salt key = z ∙ ap (λ (t : List ℕ). pasted t 32 key) one ∙ row-keyed mark suite kid 0 salt key ls (omega (arith, Nk-most s)) in
+    let one : b ≡ row mark suite kid 0 salt [] = y ∙ part-filled a salt 20 12 ls ∙ ap (λ (t : List ℕ). pasted t 20 salt) x ∙ row-salted mark suite kid 0 salt ls in
+    let k : length key ≡ end - 32 = omega arith in
+    let two : c ≡ row mark suite kid 0 salt key = z ∙ part-filled b key 32 (end - 32) k ∙ ap (λ (t : List ℕ). pasted t 32 key) one ∙ row-keyed mark suite kid 0 salt key ls (omega (arith, Nk-most s)) in
     two ∙ rw (m, n, p, q) (same-row ∙ marked role kid (numberOf s) base)
   where
     same-row : row (markFor role) (numberOf s) kid 0 (sframeSalt s base kid) (sframeKey s base kid)
@@ -99,15 +113,24 @@ row-filled role s kid mark suite base salt key a b c m n p q x y z =
 
 -- ---- the free record
 
-module _ (s : List ℕ) (st : Stored s (records s)) (i : ℕ) (f : FreeIn (At i) (records s)) where
+-- record i of a sound store is its lowest-numbered empty one
+pub record Free (s : List ℕ) (i : ℕ) : Type 0 where
+  pub stored : Stored s (records s)
+  pub found : FreeIn (At i) (records s)
+
+pub free : (s : List ℕ) → Octets s → (r : Bool) → r ≡ sound s → not r ≡ false → (p : Place) → FreeIn p (decodeAll (length s / 80) s) → (i : ℕ) → p ≡ At i → Free s i
+unfolding records
+free s o r e t p f i w = record { stored = sound-stored s o (told-true r _ e t); found = rw w at f }
+
+module _ (s : List ℕ) (i : ℕ) (here : Free s i) where
   pub free-inside : i * 80 + 80 ≤ length s
-  free-inside = let n = stored-length s (records s) st in omega (arith, f .0)
+  free-inside = let n = stored-length s (records s) (here .stored) in omega (arith, here .found .0)
 
   pub free-zeros : (end : ℕ) → end ≡ i * 80 + 80 → take (end - i * 80) (drop (i * 80) s) ≡ replicate 80 0
   unfolding encode
   free-zeros end e =
       let k : end - i * 80 ≡ 80 = omega arith in
       ap (λ (j : ℕ). take j (drop (i * 80) s)) k
-      ∙ ap (λ (x : List ℕ). take 80 (drop (i * 80) x)) (sym (st .bytes-are))
-      ∙ encode-at (records s) i (st .table .fit) (f .0)
-      ∙ ap encode (empty-is (getD (records s) i empty) (f .1))
+      ∙ ap (λ (x : List ℕ). take 80 (drop (i * 80) x)) (sym (here .stored .bytes-are))
+      ∙ encode-at (records s) i (here .stored .table .fit) (here .found .0)
+      ∙ ap encode (empty-is (getD (records s) i empty) (here .found .1))

@@ -1,4 +1,5 @@
-// The sealing layer: sealing a frame and opening a frame.
+// The sealing layer: adding a key, sealing a frame, opening a frame.
+pub mod adding;
 pub mod opening;
 pub mod sealing;
 
@@ -8,6 +9,19 @@ ghost use mathlib.Core.Path.{_≡_};
 pub const MAX_PLAINTEXT: usize = 32768;
 
 pub const MAX_METADATA: usize = 1024;
+
+// The numbers of the answers that the store does not give.
+pub const COUNTER_SPENT: u32 = 8;
+
+pub const INPUT_TOO_LONG: u32 = 9;
+
+pub const HEADER_INVALID: u32 = 10;
+
+pub const FRAME_SHORT: u32 = 11;
+
+pub const ROOM_SHORT: u32 = 12;
+
+pub const TAG_DIFFERS: u32 = 13;
 
 // What a call that fills a room answers: its number, and how many bytes it wrote.
 pub struct Answer {
