@@ -4,10 +4,15 @@
 ghost use mathlib.Core.Path.{_≡_};
 ghost use Rattle.header.specs.Header.{writeHeader, readHeader};
 ghost use Rattle.header.specs.Answers.{writtenNumber, writtenLength, readNumber, readKid, readCtr, readLength};
+ghost use Rattle.store.specs.Calls.{make, add, remove};
+ghost use Rattle.store.specs.declared.Role.the-variants.{Sending, Receiving};
+ghost use Rattle.sframe.specs.Calls.{seal, opening};
+ghost use Rattle.sframe.specs.Sframe.{sframe};
 use header::Ctr;
 use header::Kid;
 use header::Reading;
 use header::Written;
+use store::Role;
 
 // The numbers of the answers.
 const DONE: u32 = 0;
@@ -60,4 +65,72 @@ pub extern "C" fn sframe_read_header(
             HEADER_INVALID
         }
     }
+}
+
+#[no_mangle]
+pub extern "C" fn sframe_make(store: &mut [u8]) -> u32
+    ensures { λ r. ⌜ r ≡ make (now (store .entry)) .number ⌝ }
+    ensures { λ r. ⌜ now (store .exit) ≡ make (now (store .entry)) .store ⌝ }
+{
+    store::make(store)
+}
+
+#[no_mangle]
+pub extern "C" fn sframe_add_sending(store: &mut [u8], kid: u64, suite: u64, base: &[u8]) -> u32
+    ensures { λ r. ⌜ r ≡ add sframe (now (store .entry)) Sending kid suite (now (base .entry)) .number ⌝ }
+    ensures { λ r. ⌜ now (store .exit) ≡ add sframe (now (store .entry)) Sending kid suite (now (base .entry)) .store ⌝ }
+{
+    sframe::adding::add(store, Role::Sending, Kid(kid), suite, base)
+}
+
+#[no_mangle]
+pub extern "C" fn sframe_add_receiving(store: &mut [u8], kid: u64, suite: u64, base: &[u8]) -> u32
+    ensures { λ r. ⌜ r ≡ add sframe (now (store .entry)) Receiving kid suite (now (base .entry)) .number ⌝ }
+    ensures { λ r. ⌜ now (store .exit) ≡ add sframe (now (store .entry)) Receiving kid suite (now (base .entry)) .store ⌝ }
+{
+    sframe::adding::add(store, Role::Receiving, Kid(kid), suite, base)
+}
+
+#[no_mangle]
+pub extern "C" fn sframe_remove(store: &mut [u8], kid: u64) -> u32
+    ensures { λ r. ⌜ r ≡ remove (now (store .entry)) kid .number ⌝ }
+    ensures { λ r. ⌜ now (store .exit) ≡ remove (now (store .entry)) kid .store ⌝ }
+{
+    store::remove(store, Kid(kid))
+}
+
+#[no_mangle]
+pub extern "C" fn sframe_seal(
+    store: &mut [u8],
+    kid: u64,
+    metadata: &[u8],
+    plaintext: &[u8],
+    out: &mut [u8],
+    length: &mut usize,
+) -> u32
+    ensures { λ r. ⌜ r ≡ seal sframe (now (store .entry)) kid (now (metadata .entry)) (now (plaintext .entry)) (now (out .entry)) .number ⌝ }
+    ensures { λ r. ⌜ now (length .exit) ≡ seal sframe (now (store .entry)) kid (now (metadata .entry)) (now (plaintext .entry)) (now (out .entry)) .written ⌝ }
+    ensures { λ r. ⌜ now (store .exit) ≡ seal sframe (now (store .entry)) kid (now (metadata .entry)) (now (plaintext .entry)) (now (out .entry)) .store ⌝ }
+    ensures { λ r. ⌜ now (out .exit) ≡ seal sframe (now (store .entry)) kid (now (metadata .entry)) (now (plaintext .entry)) (now (out .entry)) .room ⌝ }
+{
+    let answer = sframe::sealing::seal(store, Kid(kid), metadata, plaintext, out);
+    *length = answer.length;
+    answer.number
+}
+
+#[no_mangle]
+pub extern "C" fn sframe_open(
+    store: &[u8],
+    frame: &[u8],
+    metadata: &[u8],
+    out: &mut [u8],
+    length: &mut usize,
+) -> u32
+    ensures { λ r. ⌜ r ≡ opening sframe (now (store .entry)) (now (metadata .entry)) (now (frame .entry)) (now (out .entry)) .number ⌝ }
+    ensures { λ r. ⌜ now (length .exit) ≡ opening sframe (now (store .entry)) (now (metadata .entry)) (now (frame .entry)) (now (out .entry)) .written ⌝ }
+    ensures { λ r. ⌜ now (out .exit) ≡ opening sframe (now (store .entry)) (now (metadata .entry)) (now (frame .entry)) (now (out .entry)) .room ⌝ }
+{
+    let answer = sframe::opening::open(store, frame, metadata, out);
+    *length = answer.length;
+    answer.number
 }
