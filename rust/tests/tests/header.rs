@@ -1,6 +1,7 @@
 //! Headers: written and read by the sealing layer and by the reference.
 
-use comparison::{compare_read_header, compare_write_header, BAD_HEADER, ROOM_SHORT};
+use comparison::number::{BAD_HEADER, ROOM_SHORT};
+use comparison::{compare_read_header, compare_write_header};
 use reference::header::{write_header, MAX_LENGTH};
 use sframe::raw::{Read, Written};
 use testkit::{header_vectors, hex, Generator};
