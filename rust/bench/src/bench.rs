@@ -1,43 +1,38 @@
 //! Times of the calls that the sealing layer offers.
 
-use bench::{measure, print_heading, print_method, print_time};
-use std::hint::black_box;
+mod frames;
+mod headers;
+mod judging;
+mod others;
+mod stores;
 
-fn main() {
-    print_method();
-    headers();
+use bench::print_method;
+use std::path::{Path, PathBuf};
+use std::process::ExitCode;
+use std::{env, fs, io};
+
+/// Takes the folder that the tables are written to as CSV files.
+fn main() -> ExitCode {
+    let folder = match env::args_os().nth(1) {
+        Some(folder) => PathBuf::from(folder),
+        None => Path::new(env!("CARGO_MANIFEST_DIR")).with_file_name("target/bench"),
+    };
+    match run(&folder) {
+        Ok(()) => ExitCode::SUCCESS,
+        Err(error) => {
+            eprintln!("bench: {}: {error}", folder.display());
+            ExitCode::FAILURE
+        }
+    }
 }
 
-/// The reference writes a header into a new vector each time.
-fn headers() {
-    print_heading("headers, by length in bytes");
-    for (kid, ctr) in [(1, 0), (200, 0x0123_4567), (u64::MAX, u64::MAX)] {
-        let mut out = [0; sframe::MAX_HEADER];
-        let written = measure(
-            || {
-                black_box(sframe::raw::write_header(
-                    black_box(kid),
-                    black_box(ctr),
-                    black_box(&mut out),
-                ));
-            },
-            || {
-                black_box(reference::header::write_header(
-                    black_box(kid),
-                    black_box(ctr),
-                ));
-            },
-        );
-        let header = reference::header::write_header(kid, ctr);
-        let read = measure(
-            || {
-                black_box(sframe::raw::read_header(black_box(&header)));
-            },
-            || {
-                black_box(reference::header::read_header(black_box(&header)));
-            },
-        );
-        print_time(&format!("write, header of {}", header.len()), written);
-        print_time(&format!("read, header of {}", header.len()), read);
-    }
+fn run(folder: &Path) -> io::Result<()> {
+    fs::create_dir_all(folder)?;
+    print_method();
+    headers::run();
+    frames::run(&folder.join("frames.csv"))?;
+    judging::run(&folder.join("judging.csv"))?;
+    others::run();
+    println!("\nframes.csv and judging.csv are in {}", folder.display());
+    Ok(())
 }

@@ -1,6 +1,59 @@
 //! The C functions, as `include/sframe.h` declares and describes them.
 
 extern "C" {
+    /// Makes every record of `store` empty.
+    pub fn sframe_make(store: *mut u8, store_len: usize) -> u32;
+
+    /// Adds a key for sealing.
+    pub fn sframe_add_sending(
+        store: *mut u8,
+        store_len: usize,
+        kid: u64,
+        suite: u64,
+        base_key: *const u8,
+        base_key_len: usize,
+    ) -> u32;
+
+    /// Adds a key for opening.
+    pub fn sframe_add_receiving(
+        store: *mut u8,
+        store_len: usize,
+        kid: u64,
+        suite: u64,
+        base_key: *const u8,
+        base_key_len: usize,
+    ) -> u32;
+
+    /// Removes a key.
+    pub fn sframe_remove(store: *mut u8, store_len: usize, kid: u64) -> u32;
+
+    /// Seals `plaintext` into a frame at the front of `out`.
+    pub fn sframe_seal(
+        store: *mut u8,
+        store_len: usize,
+        kid: u64,
+        metadata: *const u8,
+        metadata_len: usize,
+        plaintext: *const u8,
+        plaintext_len: usize,
+        out: *mut u8,
+        out_len: usize,
+        length: *mut usize,
+    ) -> u32;
+
+    /// Opens `frame` to its plaintext at the front of `out`.
+    pub fn sframe_open(
+        store: *const u8,
+        store_len: usize,
+        frame: *const u8,
+        frame_len: usize,
+        metadata: *const u8,
+        metadata_len: usize,
+        out: *mut u8,
+        out_len: usize,
+        length: *mut usize,
+    ) -> u32;
+
     /// Writes a header at the front of `out`.
     pub fn sframe_write_header(
         kid: u64,

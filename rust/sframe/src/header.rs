@@ -10,7 +10,7 @@ pub const MAX_HEADER: usize = 17;
 /// Key numbers and counters are kinds of their own, and neither passes for the
 /// other:
 ///
-/// ```compile_fail
+/// ```compile_fail,E0308
 /// use sframe::{write_header, Ctr, Kid};
 ///
 /// write_header(Ctr(0), Kid(200), &mut [0; 17]);

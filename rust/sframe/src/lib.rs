@@ -1,23 +1,48 @@
 //! SFrame (RFC 9605): the safe wrapper over the sealing layer's static library.
 //!
+//! A [`Store`] holds the keys in bytes that the caller lends. It seals under a
+//! key number and its own counter, and opens what another store has sealed. A
+//! call that cannot be done answers a [`Refusal`] and changes nothing.
+//!
 //! ```
-//! use sframe::{read_header, write_header, Ctr, Kid, MAX_HEADER};
+//! use sframe::{Kid, Metadata, Role, Store, Suite, RECORD};
 //!
-//! let mut out = [0; MAX_HEADER];
-//! let length = write_header(Kid(200), Ctr(0), &mut out)?;
-//! assert_eq!(out[..length], [0x80, 200]);
+//! let (mut ward, mut doctor) = ([0; RECORD], [0; RECORD]);
+//! let mut ward = Store::make(&mut ward)?;
+//! let mut doctor = Store::make(&mut doctor)?;
+//! let base_key = [7; 32]; // agreed on elsewhere
+//! ward.add(Role::Sending, Suite::Aes256GcmSha512_128, Kid(200), &base_key)?;
+//! doctor.add(Role::Receiving, Suite::Aes256GcmSha512_128, Kid(200), &base_key)?;
 //!
-//! let header = read_header(&out[..length])?;
-//! assert_eq!(header.kid, Kid(200));
+//! let frame = ward.seal_to_vec(Kid(200), Metadata::NONE, b"a picture")?;
+//! assert_eq!(doctor.open_to_vec(&frame, Metadata::NONE)?, b"a picture");
 //! # Ok::<(), sframe::Refusal>(())
 //! ```
+//!
+//! [`raw`] has the same calls with bare numbers, and [`ffi`] the C functions.
 
+#![deny(unsafe_code)]
 #![deny(unsafe_op_in_unsafe_fn)]
 
+#[allow(unsafe_code)]
 pub mod ffi;
 mod header;
+mod limits;
+#[allow(unsafe_code)]
 pub mod raw;
+mod record;
 mod refusal;
+mod store;
+mod suite;
+mod view;
 
 pub use header::{read_header, write_header, Ctr, Header, Kid, MAX_HEADER};
+pub use limits::{
+    frame_room, MAX_BASE_KEY, MAX_COUNTER, MAX_METADATA, MAX_PLAINTEXT, MAX_RECORDS, MIN_BASE_KEY,
+    RECORD,
+};
+pub use record::{Record, State};
 pub use refusal::Refusal;
+pub use store::{Role, Store};
+pub use suite::Suite;
+pub use view::{Metadata, StoreView};

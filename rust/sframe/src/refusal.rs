@@ -12,30 +12,86 @@ use std::fmt;
 /// let refusal = read_header(&[]).unwrap_err();
 /// assert_eq!(refusal, Refusal::BadHeader);
 /// assert_eq!(refusal.number(), 10);
-/// assert_eq!(refusal.to_string(), "header cut short or not shortest");
+/// assert_eq!(Refusal::from_number(10), Some(refusal));
+/// assert_eq!(refusal.to_string(), "the header is cut short or not in its shortest form");
 /// ```
-#[derive(Clone, Copy, Debug, PartialEq, Eq, Hash)]
+#[derive(Clone, Copy, Debug, PartialEq, Eq, Hash, PartialOrd, Ord)]
 #[non_exhaustive]
 pub enum Refusal {
+    /// A rule of the store's layout is broken; in making, the length is no
+    /// multiple of 80 from 80 to 5,120.
+    StoreNotSound = 1,
+    /// The suite's number is not 1 to 5. [`Suite`](crate::Suite) has no such
+    /// value, so only [`raw`](crate::raw) calls get this answer.
+    NoSuchSuite = 2,
+    /// The base key is shorter than 16 bytes or longer than 64.
+    BaseKeyLength = 3,
+    /// The store already has a record of the key number, if only a retired one.
+    KidHeld = 4,
+    /// Every record of the store is in use.
+    StoreFull = 5,
+    /// The store has no record of the key number.
+    KidUnknown = 6,
+    /// The record is not for this: sealing needs a sending one, opening a
+    /// receiving one, and a retired one cannot be removed.
+    WrongRole = 7,
+    /// The key has sealed as many frames as a key may: 2^40.
+    CounterSpent = 8,
+    /// The plaintext exceeds 32,768 bytes, or the metadata 1,024.
+    TooLong = 9,
     /// The header is cut short, or writes a number in more bytes than it needs.
     BadHeader = 10,
-    /// The lent room is shorter than the result.
+    /// Behind the header the frame is shorter than a tag.
+    FrameShort = 11,
+    /// The result needs a longer room than the one that was lent.
     RoomShort = 12,
+    /// The frame was not sealed under this key and with this metadata, or it
+    /// has changed on its way.
+    TagDiffers = 13,
 }
 
+use Refusal::*;
+
 impl Refusal {
+    /// Every refusal, by rising number.
+    pub const ALL: [Refusal; 13] = [
+        StoreNotSound,
+        NoSuchSuite,
+        BaseKeyLength,
+        KidHeld,
+        StoreFull,
+        KidUnknown,
+        WrongRole,
+        CounterSpent,
+        TooLong,
+        BadHeader,
+        FrameShort,
+        RoomShort,
+        TagDiffers,
+    ];
+
     /// The number of the refusal in the C interface.
     pub fn number(self) -> u32 {
         self as u32
     }
 
+    /// The refusal of a number.
+    pub fn from_number(number: u32) -> Option<Refusal> {
+        Self::ALL
+            .into_iter()
+            .find(|refusal| refusal.number() == number)
+    }
+
     /// `value` where the library answers 0, else the refusal it names.
+    ///
+    /// # Panics
+    ///
+    /// Where the library answers a number that is none of its answers.
     pub(crate) fn check<T>(number: u32, value: T) -> Result<T, Refusal> {
-        match number {
-            0 => Ok(value),
-            10 => Err(Refusal::BadHeader),
-            12 => Err(Refusal::RoomShort),
-            _ => unreachable!("the library answers no number {number}"),
+        match (number, Refusal::from_number(number)) {
+            (0, _) => Ok(value),
+            (_, Some(refusal)) => Err(refusal),
+            (_, None) => unreachable!("the library answers no number {number}"),
         }
     }
 }
@@ -43,8 +99,19 @@ impl Refusal {
 impl fmt::Display for Refusal {
     fn fmt(&self, f: &mut fmt::Formatter) -> fmt::Result {
         f.write_str(match self {
-            Refusal::BadHeader => "header cut short or not shortest",
-            Refusal::RoomShort => "lent room shorter than the result",
+            StoreNotSound => "the store is not sound",
+            NoSuchSuite => "there is no such cipher suite: they are numbered 1 to 5",
+            BaseKeyLength => "the base key must have 16 to 64 bytes",
+            KidHeld => "the store has this key number already",
+            StoreFull => "the store has no empty record left",
+            KidUnknown => "the store does not have this key number",
+            WrongRole => "the role of this key number does not allow the call",
+            CounterSpent => "the key has no counter left",
+            TooLong => "the plaintext has more than 32,768 bytes or the metadata more than 1,024",
+            BadHeader => "the header is cut short or not in its shortest form",
+            FrameShort => "the frame is too short to hold a tag",
+            RoomShort => "the room is too short for the result",
+            TagDiffers => "the tag does not match",
         })
     }
 }

@@ -1,6 +1,7 @@
 //! Headers: written and read by the sealing layer and by the reference.
 
-use comparison::{compare_read_header, compare_write_header, BAD_HEADER, ROOM_SHORT};
+use comparison::number::{BAD_HEADER, ROOM_SHORT};
+use comparison::{compare_read_header, compare_write_header};
 use reference::header::{write_header, MAX_LENGTH};
 use sframe::raw::{Read, Written};
 use testkit::{header_vectors, hex, Generator};
@@ -164,21 +165,4 @@ fn long_form(generator: &mut Generator, kid: u64, ctr: u64) -> Vec<u8> {
         header.extend(&number.to_be_bytes()[unused..]);
     }
     header
-}
-
-/// A null pointer is allowed where its length is 0.
-#[test]
-fn null_with_length_zero() {
-    let (mut kid, mut ctr, mut length) = (1, 1, 1);
-    // SAFETY: a length of 0 lends no byte, and the numbers are locals.
-    let number = unsafe {
-        sframe::ffi::sframe_read_header(std::ptr::null(), 0, &mut kid, &mut ctr, &mut length)
-    };
-    assert_eq!((number, kid, ctr, length), (BAD_HEADER, 0, 0, 0));
-
-    length = 1;
-    // SAFETY: as above.
-    let number =
-        unsafe { sframe::ffi::sframe_write_header(0, 0, std::ptr::null_mut(), 0, &mut length) };
-    assert_eq!((number, length), (ROOM_SHORT, 0));
 }

@@ -1,0 +1,29 @@
+//! Stores to measure on.
+
+use reference::store::{add, make, Role};
+use sframe::{Suite, RECORD};
+
+/// The key number of the measured key, the last that its store holds.
+pub const KID: u64 = 200;
+
+/// The counter that sealing starts from. Headers keep their length from here
+/// until 2^24.
+const FIRST_COUNTER: u64 = 1 << 16;
+
+/// A full store of so many records. The measured key is in the last one.
+pub fn full(records: usize, suite: Suite, role: Role) -> Vec<u8> {
+    let mut store = vec![0; records * RECORD];
+    let done = make(&mut store);
+    assert_eq!(done, Ok(0));
+    for place in 1..=records as u64 {
+        let last = place == records as u64;
+        let kid = if last { KID } else { 1_000 + place };
+        let done = add(&mut store, role, suite.number(), kid, &[7; 32]);
+        assert_eq!(done, Ok(0));
+    }
+    if role == Role::Sending {
+        let at = (records - 1) * RECORD + 12;
+        store[at..at + 8].copy_from_slice(&FIRST_COUNTER.to_be_bytes());
+    }
+    store
+}

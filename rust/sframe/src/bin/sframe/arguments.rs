@@ -1,0 +1,247 @@
+//! The command line.
+
+use crate::failure::Failure;
+use crate::input::Place;
+use sframe::{Ctr, Kid, Role};
+use std::ffi::OsString;
+use std::path::PathBuf;
+
+/// What a run is asked to do.
+#[derive(Debug, PartialEq, Eq)]
+pub enum Command {
+    Help,
+    Make {
+        store: PathBuf,
+        keys: u64,
+    },
+    Add {
+        store: PathBuf,
+        role: Role,
+        kid: Kid,
+        suite: u64,
+        key: Place,
+        hex: bool,
+    },
+    Remove {
+        store: PathBuf,
+        kid: Kid,
+    },
+    List {
+        store: PathBuf,
+    },
+    Seal {
+        store: PathBuf,
+        kid: Kid,
+        streams: Streams,
+    },
+    Open {
+        store: PathBuf,
+        streams: Streams,
+    },
+    WriteHeader {
+        kid: Kid,
+        ctr: Ctr,
+    },
+    ReadHeader {
+        frame: Place,
+        hex: bool,
+    },
+}
+
+/// What sealing and opening read and write.
+#[derive(Debug, PartialEq, Eq)]
+pub struct Streams {
+    pub input: Place,
+    pub output: Place,
+    pub metadata: Option<Place>,
+    /// Whether the frame is in hex.
+    pub hex: bool,
+}
+
+impl Command {
+    /// The command that the arguments spell, without the program's name.
+    pub fn parse(arguments: impl Iterator<Item = OsString>) -> Result<Command, Failure> {
+        let mut arguments = arguments.peekable();
+        let name = match arguments.next().map(OsString::into_string) {
+            None => return Err(Failure::usage("no command is given")),
+            Some(Ok(name)) => name,
+            Some(Err(_)) => return Err(Failure::usage("the command is no text")),
+        };
+        let mut words = Words::parse(arguments)?;
+        if words.flag("--help") || matches!(name.as_str(), "--help" | "-h" | "help") {
+            return Ok(Command::Help);
+        }
+        let command = match name.as_str() {
+            "make" => Command::Make {
+                store: words.store()?,
+                keys: words.number("--keys")?,
+            },
+            "add" => Command::Add {
+                store: words.store()?,
+                role: words.role()?,
+                kid: Kid(words.number("--kid")?),
+                suite: words.number("--suite")?,
+                key: words.required("--key")?.into(),
+                hex: words.flag("--hex"),
+            },
+            "remove" => Command::Remove {
+                store: words.store()?,
+                kid: Kid(words.number("--kid")?),
+            },
+            "list" => Command::List {
+                store: words.store()?,
+            },
+            "seal" => Command::Seal {
+                store: words.store()?,
+                kid: Kid(words.number("--kid")?),
+                streams: words.streams()?,
+            },
+            "open" => Command::Open {
+                store: words.store()?,
+                streams: words.streams()?,
+            },
+            "header" => words.header()?,
+            _ => return Err(Failure::usage(format!("there is no command `{name}`"))),
+        };
+        words.finish()?;
+        Ok(command)
+    }
+}
+
+/// The options that take a value, and those that take none.
+const VALUES: [&str; 8] = [
+    "--keys",
+    "--kid",
+    "--suite",
+    "--key",
+    "--in",
+    "--out",
+    "--metadata",
+    "--ctr",
+];
+const FLAGS: [&str; 4] = ["--sending", "--receiving", "--hex", "--help"];
+
+/// The words behind the command, taken out as they are used.
+struct Words {
+    plain: Vec<OsString>,
+    values: Vec<(&'static str, OsString)>,
+    flags: Vec<&'static str>,
+}
+
+impl Words {
+    fn parse(mut arguments: impl Iterator<Item = OsString>) -> Result<Self, Failure> {
+        let mut words = Words {
+            plain: vec![],
+            values: vec![],
+            flags: vec![],
+        };
+        while let Some(word) = arguments.next() {
+            let text = word.to_str().unwrap_or_default();
+            let text = if text == "-h" { "--help" } else { text };
+            if let Some(name) = VALUES.into_iter().find(|&name| name == text) {
+                if words.values.iter().any(|&(other, _)| other == name) {
+                    return Err(Failure::usage(format!("{name} is given twice")));
+                }
+                let value = arguments
+                    .next()
+                    .ok_or_else(|| Failure::usage(format!("{name} needs a value")))?;
+                words.values.push((name, value));
+            } else if let Some(name) = FLAGS.into_iter().find(|&name| name == text) {
+                words.flags.push(name);
+            } else if text.starts_with('-') && text != "-" {
+                return Err(Failure::usage(format!("there is no option {text}")));
+            } else {
+                words.plain.push(word);
+            }
+        }
+        Ok(words)
+    }
+
+    fn flag(&mut self, name: &str) -> bool {
+        let before = self.flags.len();
+        self.flags.retain(|&flag| flag != name);
+        self.flags.len() < before
+    }
+
+    fn value(&mut self, name: &str) -> Option<OsString> {
+        let at = self.values.iter().position(|&(other, _)| other == name)?;
+        Some(self.values.remove(at).1)
+    }
+
+    fn required(&mut self, name: &str) -> Result<OsString, Failure> {
+        self.value(name)
+            .ok_or_else(|| Failure::usage(format!("{name} is missing")))
+    }
+
+    /// A number of 64 bits, in decimal or in hex after 0x.
+    fn number(&mut self, name: &str) -> Result<u64, Failure> {
+        let value = self.required(name)?;
+        let text = value.to_str().unwrap_or_default();
+        let digits_only = |digits: &str| !digits.starts_with('+');
+        match text.strip_prefix("0x") {
+            Some(digits) if digits_only(digits) => u64::from_str_radix(digits, 16).ok(),
+            None if digits_only(text) => text.parse().ok(),
+            _ => None,
+        }
+        .ok_or_else(|| {
+            let value = value.display();
+            Failure::usage(format!("{name} {value}: not a number of up to 64 bits"))
+        })
+    }
+
+    fn store(&mut self) -> Result<PathBuf, Failure> {
+        match self.plain.is_empty() {
+            true => Err(Failure::usage("the store's file is missing")),
+            false => Ok(self.plain.remove(0).into()),
+        }
+    }
+
+    fn role(&mut self) -> Result<Role, Failure> {
+        match (self.flag("--sending"), self.flag("--receiving")) {
+            (true, false) => Ok(Role::Sending),
+            (false, true) => Ok(Role::Receiving),
+            _ => Err(Failure::usage("give one of --sending and --receiving")),
+        }
+    }
+
+    fn streams(&mut self) -> Result<Streams, Failure> {
+        let standard = |value: Option<OsString>| value.map_or(Place::Standard, Place::from);
+        let streams = Streams {
+            input: standard(self.value("--in")),
+            output: standard(self.value("--out")),
+            metadata: self.value("--metadata").map(Place::from),
+            hex: self.flag("--hex"),
+        };
+        if streams.input == Place::Standard && streams.metadata == Some(Place::Standard) {
+            let text = "--in and --metadata cannot both be standard input";
+            return Err(Failure::usage(text));
+        }
+        Ok(streams)
+    }
+
+    fn header(&mut self) -> Result<Command, Failure> {
+        match self.value("--in") {
+            Some(frame) => Ok(Command::ReadHeader {
+                frame: frame.into(),
+                hex: self.flag("--hex"),
+            }),
+            None => Ok(Command::WriteHeader {
+                kid: Kid(self.number("--kid")?),
+                ctr: Ctr(self.number("--ctr")?),
+            }),
+        }
+    }
+
+    /// Checks that every word was used.
+    fn finish(self) -> Result<(), Failure> {
+        let value = self.values.first().map(|&(name, _)| name);
+        if let Some(name) = value.or(self.flags.first().copied()) {
+            return Err(Failure::usage(format!("this command takes no {name}")));
+        }
+        match self.plain.first() {
+            None => Ok(()),
+            // Not shown: it could be a key.
+            Some(_) => Err(Failure::usage("there is an argument too many")),
+        }
+    }
+}

@@ -1,0 +1,196 @@
+//! What each command does.
+
+use crate::arguments::{Command, Streams};
+use crate::disk::Disk;
+use crate::failure::Failure;
+use crate::help::HELP;
+use crate::hex;
+use crate::input::Place;
+use crate::store_file::StoreFile;
+use sframe::{
+    raw, read_header, write_header, Ctr, Kid, Metadata, Refusal, Role, Store, StoreView,
+    MAX_BASE_KEY, MAX_HEADER, MAX_METADATA, MAX_PLAINTEXT, MAX_RECORDS, RECORD,
+};
+use std::io::Write;
+use std::path::Path;
+
+/// A length that no frame reaches which could be opened.
+const MAX_FRAME: usize = MAX_HEADER + MAX_PLAINTEXT + 16;
+
+/// Runs a command. What it has to say goes to `out`.
+pub fn run(command: Command, disk: &mut impl Disk, out: &mut impl Write) -> Result<(), Failure> {
+    match command {
+        Command::Help => print(out, HELP),
+        Command::Make { store, keys } => make(disk, &store, keys),
+        Command::Add {
+            store,
+            role,
+            kid,
+            suite,
+            key,
+            hex,
+        } => {
+            let base_key = match hex {
+                true => key.read_hex(MAX_BASE_KEY)?,
+                false => key.read(MAX_BASE_KEY)?,
+            };
+            change(disk, &store, |bytes| {
+                add(bytes, role, kid, suite, &base_key)
+            })
+        }
+        Command::Remove { store, kid } => {
+            change(disk, &store, |bytes| Store::over(bytes).remove(kid))
+        }
+        Command::List { store } => list(disk, &store, out),
+        Command::Seal {
+            store,
+            kid,
+            streams,
+        } => seal(disk, &store, kid, &streams, out),
+        Command::Open { store, streams } => open(disk, &store, &streams, out),
+        Command::WriteHeader { kid, ctr } => {
+            let mut header = [0; MAX_HEADER];
+            let length = write_header(kid, ctr, &mut header)?;
+            print(out, &format!("{}\n", hex::encode(&header[..length])))
+        }
+        Command::ReadHeader { frame, hex } => {
+            let header = read_header(&read_frame(&frame, hex)?)?;
+            let (Kid(kid), Ctr(ctr), length) = (header.kid, header.ctr, header.length);
+            let text = format!("key number {kid}, counter {ctr}, header of {length} bytes\n");
+            print(out, &text)
+        }
+    }
+}
+
+fn make(disk: &mut impl Disk, path: &Path, keys: u64) -> Result<(), Failure> {
+    let file = StoreFile::at(path)?;
+    // More records than a store may have are refused like any other number.
+    let records = keys.min(MAX_RECORDS as u64 + 1) as usize;
+    let mut bytes = vec![0; records * RECORD];
+    Store::make(&mut bytes)?;
+
+    let _lock = file.lock()?;
+    if disk.exists(file.path()).map_err(Failure::at(file.path()))? {
+        let error = std::io::ErrorKind::AlreadyExists.into();
+        return Err(Failure::io(path.display().to_string(), error));
+    }
+    file.replace(disk, &bytes)
+}
+
+/// Makes a call that changes the store, and keeps the store if it is done.
+fn change<T>(
+    disk: &mut impl Disk,
+    path: &Path,
+    call: impl FnOnce(&mut [u8]) -> Result<T, Refusal>,
+) -> Result<T, Failure> {
+    let file = StoreFile::at(path)?;
+    // No file means no lock file either.
+    file.read(disk)?;
+    let _lock = file.lock()?;
+    let mut bytes = file.read(disk)?;
+    let answer = call(&mut bytes)?;
+    file.replace(disk, &bytes)?;
+    Ok(answer)
+}
+
+/// The layer itself judges the suite's number, so that its order of refusals
+/// holds here too.
+fn add(
+    store: &mut [u8],
+    role: Role,
+    Kid(kid): Kid,
+    suite: u64,
+    base_key: &[u8],
+) -> Result<(), Refusal> {
+    let number = match role {
+        Role::Sending => raw::add_sending(store, kid, suite, base_key),
+        Role::Receiving => raw::add_receiving(store, kid, suite, base_key),
+    };
+    Refusal::from_number(number).map_or(Ok(()), Err)
+}
+
+fn list(disk: &mut impl Disk, path: &Path, out: &mut impl Write) -> Result<(), Failure> {
+    let bytes = StoreFile::at(path)?.read(disk)?;
+    let records = StoreView::over(&bytes).records()?;
+    let mut text = format!(
+        "{:<9}  {:<28}  {:>20}  {:>13}\n",
+        "role", "suite", "key number", "next counter"
+    );
+    for record in &records {
+        text += &format!(
+            "{:<9}  {} {:<26}  {:>20}  {:>13}\n",
+            record.state,
+            record.suite.number(),
+            record.suite,
+            record.kid.0,
+            record.next.0
+        );
+    }
+    let total = bytes.len() / RECORD;
+    text += &format!("{} of {total} records in use\n", records.len());
+    print(out, &text)
+}
+
+/// The store with the new counter is on the disk before the frame leaves.
+fn seal(
+    disk: &mut impl Disk,
+    path: &Path,
+    kid: Kid,
+    streams: &Streams,
+    out: &mut impl Write,
+) -> Result<(), Failure> {
+    spare_store(path, &streams.output)?;
+    let plaintext = streams.input.read(MAX_PLAINTEXT)?;
+    let metadata = read_metadata(streams)?;
+    let frame = change(disk, path, |bytes| {
+        Store::over(bytes).seal_to_vec(kid, Metadata(&metadata), &plaintext)
+    })?;
+    if streams.hex {
+        let text = format!("{}\n", hex::encode(&frame));
+        return streams.output.write(text.as_bytes(), out);
+    }
+    streams.output.write(&frame, out)
+}
+
+/// Opening changes nothing, so it needs no lock: the file is always whole.
+fn open(
+    disk: &mut impl Disk,
+    path: &Path,
+    streams: &Streams,
+    out: &mut impl Write,
+) -> Result<(), Failure> {
+    spare_store(path, &streams.output)?;
+    let frame = read_frame(&streams.input, streams.hex)?;
+    let metadata = read_metadata(streams)?;
+    let bytes = StoreFile::at(path)?.read(disk)?;
+    let plaintext = StoreView::over(&bytes).open_to_vec(&frame, Metadata(&metadata))?;
+    streams.output.write(&plaintext, out)
+}
+
+/// Refuses to write the result over the store.
+fn spare_store(store: &Path, output: &Place) -> Result<(), Failure> {
+    match output {
+        Place::File(path) if StoreFile::at(path)? == StoreFile::at(store)? => {
+            Err(Failure::usage("--out is the store itself"))
+        }
+        _ => Ok(()),
+    }
+}
+
+fn read_frame(place: &Place, hex: bool) -> Result<Vec<u8>, Failure> {
+    match hex {
+        true => place.read_hex(MAX_FRAME),
+        false => place.read(MAX_FRAME),
+    }
+}
+
+fn read_metadata(streams: &Streams) -> Result<Vec<u8>, Failure> {
+    match &streams.metadata {
+        Some(place) => place.read(MAX_METADATA),
+        None => Ok(vec![]),
+    }
+}
+
+fn print(out: &mut impl Write, text: &str) -> Result<(), Failure> {
+    Place::Standard.write(text.as_bytes(), out)
+}

@@ -1,0 +1,71 @@
+//! The steps on a disk by which a store is replaced, one by one, so that tests
+//! can stop between any two of them.
+
+use std::fs::{self, File, OpenOptions};
+use std::io::{self, Write};
+use std::path::Path;
+
+/// A disk with files in folders.
+pub trait Disk {
+    /// An open file.
+    type File;
+
+    /// Whether there is a file at `path`.
+    fn exists(&mut self, path: &Path) -> io::Result<bool>;
+    /// The first `most` bytes of a file.
+    fn read(&mut self, path: &Path, most: usize) -> io::Result<Vec<u8>>;
+    /// Opens a file for writing, empty, that others than its owner cannot read.
+    fn create(&mut self, path: &Path) -> io::Result<Self::File>;
+    /// Writes to a file.
+    fn write(&mut self, file: &mut Self::File, bytes: &[u8]) -> io::Result<()>;
+    /// Returns once what was written to a file outlasts a power cut.
+    fn sync(&mut self, file: &mut Self::File) -> io::Result<()>;
+    /// Gives a file another name, in place of the file that has that name.
+    fn rename(&mut self, from: &Path, to: &Path) -> io::Result<()>;
+    /// Returns once the names in a folder outlast a power cut.
+    fn sync_folder(&mut self, folder: &Path) -> io::Result<()>;
+}
+
+/// The machine's own disk.
+pub struct RealDisk;
+
+impl Disk for RealDisk {
+    type File = File;
+
+    fn exists(&mut self, path: &Path) -> io::Result<bool> {
+        path.try_exists()
+    }
+
+    fn read(&mut self, path: &Path, most: usize) -> io::Result<Vec<u8>> {
+        use std::io::Read;
+        let mut bytes = vec![];
+        File::open(path)?
+            .take(most as u64)
+            .read_to_end(&mut bytes)?;
+        Ok(bytes)
+    }
+
+    fn create(&mut self, path: &Path) -> io::Result<File> {
+        let mut options = OpenOptions::new();
+        options.write(true).create(true).truncate(true);
+        #[cfg(unix)]
+        std::os::unix::fs::OpenOptionsExt::mode(&mut options, 0o600);
+        options.open(path)
+    }
+
+    fn write(&mut self, file: &mut File, bytes: &[u8]) -> io::Result<()> {
+        file.write_all(bytes)
+    }
+
+    fn sync(&mut self, file: &mut File) -> io::Result<()> {
+        file.sync_all()
+    }
+
+    fn rename(&mut self, from: &Path, to: &Path) -> io::Result<()> {
+        fs::rename(from, to)
+    }
+
+    fn sync_folder(&mut self, folder: &Path) -> io::Result<()> {
+        File::open(folder)?.sync_all()
+    }
+}

@@ -1,0 +1,76 @@
+//! Why a run fails, and with which exit status.
+
+use sframe::Refusal;
+use std::fmt;
+use std::io;
+use std::path::Path;
+
+/// The command line is not one that the tool takes.
+pub const USAGE: u8 = 64;
+/// An input is not of the form that was announced.
+pub const DATA: u8 = 65;
+/// A file or a stream failed.
+pub const IO: u8 = 74;
+
+/// Why a run fails.
+#[derive(Debug)]
+pub enum Failure {
+    /// The sealing layer refused.
+    Refused(Refusal),
+    /// The command line is wrong.
+    Usage(String),
+    /// An input is wrong.
+    Data(String),
+    /// A file or a stream failed.
+    Io {
+        /// What failed.
+        what: String,
+        /// How.
+        error: io::Error,
+    },
+}
+
+impl Failure {
+    pub fn usage(text: impl Into<String>) -> Self {
+        Failure::Usage(text.into())
+    }
+
+    pub fn io(what: impl Into<String>, error: io::Error) -> Self {
+        Failure::Io {
+            what: what.into(),
+            error,
+        }
+    }
+
+    /// For `map_err`: a failure of the file at `path`.
+    pub fn at(path: &Path) -> impl FnOnce(io::Error) -> Failure + '_ {
+        |error| Failure::io(path.display().to_string(), error)
+    }
+
+    /// The exit status: a refusal's own number, or one above them all.
+    pub fn status(&self) -> u8 {
+        match self {
+            Failure::Refused(refusal) => refusal.number() as u8,
+            Failure::Usage(_) => USAGE,
+            Failure::Data(_) => DATA,
+            Failure::Io { .. } => IO,
+        }
+    }
+}
+
+impl From<Refusal> for Failure {
+    fn from(refusal: Refusal) -> Self {
+        Failure::Refused(refusal)
+    }
+}
+
+impl fmt::Display for Failure {
+    fn fmt(&self, f: &mut fmt::Formatter) -> fmt::Result {
+        match self {
+            Failure::Refused(refusal) => write!(f, "refused ({}): {refusal}", refusal.number()),
+            Failure::Usage(text) => write!(f, "{text}; `sframe --help` shows how to call it"),
+            Failure::Data(text) => f.write_str(text),
+            Failure::Io { what, error } => write!(f, "{what}: {error}"),
+        }
+    }
+}

@@ -1,0 +1,65 @@
+//! The text of `--help`.
+
+pub const HELP: &str = "\
+sframe: seals and opens frames as RFC 9605 (SFrame) defines it.
+
+The keys are kept in a store, which is a file. Each key has a number (KID) that
+sender and receiver agree on, and is added either for sending or for receiving.
+Each frame that is sealed uses up one counter of its key.
+
+  sframe make STORE --keys N
+      Makes a new store with room for N keys, 1 to 64. The file must not exist.
+
+  sframe add STORE --sending|--receiving --kid K --suite S --key FILE [--hex]
+      Adds a key. FILE holds the base key, 16 to 64 bytes that both ends share;
+      with --hex it holds them as hex digits. A key is never an argument.
+      Suites:  1  AES_128_CTR_HMAC_SHA256_80     4  AES_128_GCM_SHA256_128
+               2  AES_128_CTR_HMAC_SHA256_64     5  AES_256_GCM_SHA512_128
+               3  AES_128_CTR_HMAC_SHA256_32
+
+  sframe remove STORE --kid K
+      Removes a key. A number that was added for sending stays taken in this
+      store, so that no counter is ever used twice.
+
+  sframe list STORE
+      Shows role, suite, number and next counter of each key; never the key.
+
+  sframe seal STORE --kid K [--in FILE] [--out FILE] [--metadata FILE] [--hex]
+      Seals a plaintext into a frame; with --hex the frame is written in hex.
+
+  sframe open STORE [--in FILE] [--out FILE] [--metadata FILE] [--hex]
+      Opens a frame; with --hex the frame is read in hex. Metadata must be what
+      it was in sealing.
+
+  sframe header --kid K --ctr N
+      Writes the header of a key number and a counter, in hex.
+
+  sframe header --in FILE [--hex]
+      Reads the header that a frame starts with.
+
+FILE may be - for standard input or standard output, which is also what --in
+and --out are when they are left out. Numbers are decimal, or hex after 0x.
+
+A store is replaced as a whole or not at all, and a new counter is on the disk
+before the frame under the old one is given out. STORE.lock keeps two runs from
+using one store at the same time. Never seal with a copy of a store: the copy
+would use the same counters again.
+
+Exit status: 0 done; 1 to 13 refused, with these causes:
+   1  the store is not sound              8  the key has no counter left
+   2  no such suite                       9  plaintext above 32768 bytes, or
+   3  base key not of 16 to 64 bytes         metadata above 1024
+   4  key number already in the store    10  header cut short or not shortest
+   5  no empty record left               11  frame too short for a tag
+   6  key number not in the store        12  room too short (not met here)
+   7  role does not allow it             13  the tag does not match
+64 the command line is wrong; 65 an input is not hex; 74 a file failed.
+
+Example, sealing at one end and opening at the other:
+  sframe make ward --keys 4
+  sframe make doctor --keys 4
+  sframe add ward --sending --kid 200 --suite 4 --key shared.key
+  sframe add doctor --receiving --kid 200 --suite 4 --key shared.key
+  sframe seal ward --kid 200 --in picture --out frame
+  sframe open doctor --in frame --out picture.opened
+";

@@ -1,0 +1,78 @@
+//! A store in a file.
+
+use crate::disk::Disk;
+use crate::failure::Failure;
+use sframe::{MAX_RECORDS, RECORD};
+use std::ffi::OsString;
+use std::fs::{File, OpenOptions};
+use std::path::{Path, PathBuf};
+
+/// The path of a store. A link is followed once, so that every name of a store
+/// has the same lock and the link is not what gets replaced.
+#[derive(Clone, Debug, PartialEq, Eq)]
+pub struct StoreFile(PathBuf);
+
+impl StoreFile {
+    /// The store at `path`, which may not exist yet.
+    pub fn at(path: &Path) -> Result<Self, Failure> {
+        if path.file_name().is_none() {
+            return Err(Failure::usage(format!("{}: not a file", path.display())));
+        }
+        match path.canonicalize() {
+            Ok(path) => Ok(StoreFile(path)),
+            Err(_) => Ok(StoreFile(path.to_path_buf())),
+        }
+    }
+
+    pub fn path(&self) -> &Path {
+        &self.0
+    }
+
+    /// Waits until no other run holds the store. The lock ends with the file
+    /// that is answered, at the latest with the process.
+    pub fn lock(&self) -> Result<File, Failure> {
+        let path = self.beside("", ".lock");
+        OpenOptions::new()
+            .write(true)
+            .create(true)
+            .truncate(false)
+            .open(&path)
+            .and_then(|file| file.lock().map(|()| file))
+            .map_err(Failure::at(&path))
+    }
+
+    /// The bytes of the store; of a file that is no store, one more than a store
+    /// can have.
+    pub fn read(&self, disk: &mut impl Disk) -> Result<Vec<u8>, Failure> {
+        disk.read(&self.0, MAX_RECORDS * RECORD + 1)
+            .map_err(Failure::at(&self.0))
+    }
+
+    /// Puts `bytes` in the place of the whole file. Whenever this is cut short,
+    /// the file has either its old bytes or the new ones; once it is done, the
+    /// new ones outlast a power cut.
+    pub fn replace(&self, disk: &mut impl Disk, bytes: &[u8]) -> Result<(), Failure> {
+        let new = self.beside(".", ".new");
+        let mut file = disk.create(&new).map_err(Failure::at(&new))?;
+        disk.write(&mut file, bytes).map_err(Failure::at(&new))?;
+        disk.sync(&mut file).map_err(Failure::at(&new))?;
+        disk.rename(&new, &self.0).map_err(Failure::at(&self.0))?;
+        let folder = self.folder();
+        disk.sync_folder(folder).map_err(Failure::at(folder))
+    }
+
+    fn folder(&self) -> &Path {
+        match self.0.parent() {
+            Some(folder) if folder != Path::new("") => folder,
+            _ => Path::new("."),
+        }
+    }
+
+    /// A file in the same folder, named after the store.
+    fn beside(&self, before: &str, behind: &str) -> PathBuf {
+        let mut name = OsString::from(before);
+        name.push(self.0.file_name().unwrap_or_default());
+        name.push(behind);
+        self.0.with_file_name(name)
+    }
+}

@@ -1,0 +1,117 @@
+//! Command lines.
+
+use crate::arguments::{Command, Streams};
+use crate::input::Place;
+use sframe::{Ctr, Kid, Role};
+use std::ffi::OsString;
+
+fn parse(line: &str) -> Result<Command, String> {
+    let words = line.split_whitespace().map(OsString::from);
+    Command::parse(words).map_err(|failure| failure.to_string())
+}
+
+#[test]
+fn options_in_any_order() {
+    let expected = Ok(Command::Add {
+        store: "ward".into(),
+        role: Role::Sending,
+        kid: Kid(200),
+        suite: 4,
+        key: Place::Standard,
+        hex: true,
+    });
+    for line in [
+        "add ward --sending --kid 200 --suite 4 --key - --hex",
+        "add --hex --key - --kid 0xc8 --suite 0x4 ward --sending",
+    ] {
+        assert_eq!(parse(line), expected);
+    }
+}
+
+#[test]
+fn standard_streams_unless_named() {
+    let Ok(Command::Seal { streams, .. }) = parse("seal ward --kid 1") else {
+        panic!("not a seal");
+    };
+    let expected = Streams {
+        input: Place::Standard,
+        output: Place::Standard,
+        metadata: None,
+        hex: false,
+    };
+    assert_eq!(streams, expected);
+    let Ok(Command::Open { streams, .. }) = parse("open w --in a --out b --metadata -") else {
+        panic!("not an open");
+    };
+    assert_eq!(streams.input, Place::File("a".into()));
+    assert_eq!(streams.output, Place::File("b".into()));
+    assert_eq!(streams.metadata, Some(Place::Standard));
+}
+
+#[test]
+fn numbers() {
+    let header = |kid, ctr| Ok(Command::WriteHeader { kid, ctr });
+    assert_eq!(parse("header --kid 0 --ctr 7"), header(Kid(0), Ctr(7)));
+    assert_eq!(
+        parse("header --kid 18446744073709551615 --ctr 0xffffffffffffffff"),
+        header(Kid(u64::MAX), Ctr(u64::MAX))
+    );
+    for kid in [
+        "-1",
+        "+1",
+        "0x",
+        "0x+1",
+        "1e3",
+        "c8",
+        "18446744073709551616",
+        "0x10000000000000000",
+    ] {
+        assert!(
+            parse(&format!("header --ctr 0 --kid {kid}")).is_err(),
+            "{kid}"
+        );
+    }
+}
+
+#[test]
+fn help_wherever_it_stands() {
+    for line in ["--help", "-h", "help", "seal --help", "add ward -h"] {
+        assert_eq!(parse(line), Ok(Command::Help));
+    }
+}
+
+#[test]
+fn wrong_lines() {
+    for line in [
+        "",
+        "frobnicate",
+        "make",
+        "make ward",
+        "make ward --keys",
+        "make ward --keys many",
+        "make ward --keys 4 --keys 5",
+        "make ward other --keys 4",
+        "add ward --kid 1 --suite 1 --key k",
+        "add ward --sending --receiving --kid 1 --suite 1 --key k",
+        "add ward --sending --kid 1 --suite 1",
+        "add ward --sending --kid 1 --suite 1 --key k 00112233",
+        "add ward --sending --kid 1 --suite 1 --key k --password x",
+        "remove ward",
+        "list ward --kid 1",
+        "seal ward",
+        "seal ward --kid 1 --metadata -",
+        "open ward --kid 1",
+        "header",
+        "header --kid 1",
+        "header --in f --kid 1",
+    ] {
+        assert!(parse(line).is_err(), "{line}");
+    }
+}
+
+/// A word too many could be a key.
+#[test]
+fn a_stray_argument_is_not_repeated() {
+    let message = parse("list ward 00112233445566778899aabbccddeeff").unwrap_err();
+    assert!(!message.contains("0011"), "{message}");
+}

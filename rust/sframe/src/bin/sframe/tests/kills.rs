@@ -1,0 +1,177 @@
+//! Runs that are killed, or cut off from power, between any two steps: no
+//! counter under which a frame was given out comes again.
+
+use super::memory_disk::{MemoryDisk, Unsynced};
+use crate::arguments::{Command, Streams};
+use crate::commands;
+use crate::failure::Failure;
+use crate::input::Place;
+use sframe::{read_header, Ctr, Kid, Role, StoreView};
+use std::fs;
+use std::path::PathBuf;
+
+const KID: Kid = Kid(200);
+
+/// What can be left after a run was stopped: first that of a killed run.
+const RESTARTS: [(Unsynced, Unsynced); 4] = [
+    (Unsynced::Kept, Unsynced::Kept),
+    (Unsynced::Kept, Unsynced::Lost),
+    (Unsynced::Lost, Unsynced::Kept),
+    (Unsynced::Lost, Unsynced::Lost),
+];
+
+/// A folder with the inputs; stores are on a [`MemoryDisk`], only their locks
+/// are here.
+struct Bench {
+    folder: PathBuf,
+    disk: MemoryDisk,
+}
+
+impl Bench {
+    /// A store that sends under [`KID`].
+    fn new(name: &str) -> Self {
+        let name = format!("sframe-kills-{}-{name}", std::process::id());
+        let folder = std::env::temp_dir().join(name);
+        fs::create_dir_all(&folder).unwrap();
+        fs::write(folder.join("key"), [7; 16]).unwrap();
+        fs::write(folder.join("picture"), b"a picture").unwrap();
+
+        let mut bench = Bench {
+            folder,
+            disk: MemoryDisk::default(),
+        };
+        let mut disk = bench.disk.clone();
+        bench.run(&mut disk, bench.make()).unwrap();
+        bench.run(&mut disk, bench.add()).unwrap();
+        bench.disk = disk;
+        bench
+    }
+
+    fn store(&self) -> PathBuf {
+        self.folder.join("store")
+    }
+
+    fn make(&self) -> Command {
+        Command::Make {
+            store: self.store(),
+            keys: 2,
+        }
+    }
+
+    fn add(&self) -> Command {
+        Command::Add {
+            store: self.store(),
+            role: Role::Sending,
+            kid: KID,
+            suite: 4,
+            key: Place::File(self.folder.join("key")),
+            hex: false,
+        }
+    }
+
+    fn seal(&self) -> Command {
+        Command::Seal {
+            store: self.store(),
+            kid: KID,
+            streams: Streams {
+                input: Place::File(self.folder.join("picture")),
+                output: Place::Standard,
+                metadata: None,
+                hex: false,
+            },
+        }
+    }
+
+    fn run(&self, disk: &mut MemoryDisk, command: Command) -> Result<Vec<u8>, Failure> {
+        let mut out = vec![];
+        commands::run(command, disk, &mut out).map(|()| out)
+    }
+
+    /// Seals, and answers the counter of the frame if one was given out.
+    fn counter(&self, disk: &mut MemoryDisk) -> Option<u64> {
+        let frame = self.run(disk, self.seal()).ok()?;
+        let Ctr(counter) = read_header(&frame).unwrap().ctr;
+        Some(counter)
+    }
+
+    /// The next counter that the store on a disk has.
+    fn next(&self, disk: &MemoryDisk) -> u64 {
+        use crate::disk::Disk;
+        let bytes = disk.clone().read(&self.store(), 5_120).unwrap();
+        let records = StoreView::over(&bytes).records().unwrap();
+        records[0].next.0
+    }
+}
+
+impl Drop for Bench {
+    fn drop(&mut self) {
+        let _ = fs::remove_dir_all(&self.folder);
+    }
+}
+
+#[test]
+fn sealing_stopped_at_every_step() {
+    let bench = Bench::new("every-step");
+    let (mut old, mut new) = (0, 0);
+    for step in 0.. {
+        let mut disk = bench.disk.stopping_at(step);
+        let given_out = bench.counter(&mut disk);
+        for (names, contents) in RESTARTS {
+            let mut disk = disk.restarted(names, contents);
+            let next = bench.next(&disk);
+            if let Some(counter) = given_out {
+                assert!(next > counter, "stopped at {step}, {names:?}, {contents:?}");
+            }
+            if next == 0 {
+                old += 1;
+            } else {
+                new += 1;
+            }
+            // The store goes on from there, whatever a stopped run left behind.
+            assert_eq!(bench.counter(&mut disk), Some(next));
+            assert_eq!(bench.next(&disk), next + 1);
+        }
+        if given_out.is_some() {
+            assert!(step >= 7, "two reads, create, write, sync, rename, sync");
+            break;
+        }
+    }
+    assert!(old > 0 && new > 0);
+}
+
+/// Many runs in a row, each stopped at another step and restarted in another
+/// way.
+#[test]
+fn many_stopped_runs() {
+    let bench = Bench::new("many");
+    let mut disk = bench.disk.clone();
+    let mut counters = vec![];
+    for run in 0..2_000 {
+        let mut stopped = disk.stopping_at(run * 7 % 11);
+        counters.extend(bench.counter(&mut stopped));
+        let (names, contents) = RESTARTS[run / 3 % 4];
+        disk = stopped.restarted(names, contents);
+    }
+    assert!(counters.len() > 500, "{} given out", counters.len());
+    assert!(counters.is_sorted_by(|one, next| one < next));
+}
+
+/// Adding and making leave the old store or the new one, never a part.
+#[test]
+fn other_changes_stopped_at_every_step() {
+    let bench = Bench::new("others");
+    for step in 0..12 {
+        let mut disk = MemoryDisk::default().stopping_at(step);
+        let made = bench.run(&mut disk, bench.make()).is_ok();
+        for (names, contents) in RESTARTS {
+            let mut disk = disk.restarted(names, contents);
+            // Where no store is left, it can be made.
+            if bench.run(&mut disk, bench.add()).is_err() {
+                assert!(!made);
+                bench.run(&mut disk, bench.make()).unwrap();
+                bench.run(&mut disk, bench.add()).unwrap();
+            }
+            assert_eq!(bench.counter(&mut disk), Some(0));
+        }
+    }
+}

@@ -1,0 +1,142 @@
+//! A disk in memory that can be stopped at any step, and that forgets at a
+//! power cut what was not synced.
+
+use crate::disk::Disk;
+use std::collections::HashMap;
+use std::io;
+use std::path::{Path, PathBuf};
+
+/// What a power cut leaves of what was not synced.
+#[derive(Clone, Copy, Debug)]
+pub enum Unsynced {
+    Kept,
+    Lost,
+}
+
+/// A file's bytes, as a running system sees them and as last synced.
+#[derive(Clone, Default)]
+struct Content {
+    written: Vec<u8>,
+    synced: Vec<u8>,
+}
+
+#[derive(Clone, Default)]
+pub struct MemoryDisk {
+    files: Vec<Content>,
+    names: HashMap<PathBuf, usize>,
+    synced_names: HashMap<PathBuf, usize>,
+    steps: usize,
+    stop_at: Option<usize>,
+}
+
+impl MemoryDisk {
+    /// The same disk, which fails from the given step on as if the run had been
+    /// killed there.
+    pub fn stopping_at(&self, step: usize) -> Self {
+        MemoryDisk {
+            steps: 0,
+            stop_at: Some(step),
+            ..self.clone()
+        }
+    }
+
+    /// The disk after a restart. A killed run loses nothing; a power cut may
+    /// lose names, contents or both.
+    pub fn restarted(&self, names: Unsynced, contents: Unsynced) -> Self {
+        let names = match names {
+            Unsynced::Kept => self.names.clone(),
+            Unsynced::Lost => self.synced_names.clone(),
+        };
+        let files = self.files.iter().map(|content| {
+            let bytes = match contents {
+                Unsynced::Kept => content.written.clone(),
+                Unsynced::Lost => content.synced.clone(),
+            };
+            Content {
+                written: bytes.clone(),
+                synced: bytes,
+            }
+        });
+        MemoryDisk {
+            files: files.collect(),
+            synced_names: names.clone(),
+            names,
+            ..MemoryDisk::default()
+        }
+    }
+
+    fn stopped(&self) -> bool {
+        self.stop_at.is_some_and(|step| self.steps >= step)
+    }
+
+    fn step(&mut self) -> io::Result<()> {
+        if self.stopped() {
+            return Err(io::Error::other("stopped"));
+        }
+        self.steps += 1;
+        Ok(())
+    }
+
+    fn find(&self, path: &Path) -> io::Result<usize> {
+        let missing = || io::ErrorKind::NotFound.into();
+        self.names.get(path).copied().ok_or_else(missing)
+    }
+}
+
+impl Disk for MemoryDisk {
+    type File = usize;
+
+    fn exists(&mut self, path: &Path) -> io::Result<bool> {
+        self.step()?;
+        Ok(self.names.contains_key(path))
+    }
+
+    fn read(&mut self, path: &Path, most: usize) -> io::Result<Vec<u8>> {
+        self.step()?;
+        let bytes = &self.files[self.find(path)?].written;
+        Ok(bytes[..bytes.len().min(most)].to_vec())
+    }
+
+    fn create(&mut self, path: &Path) -> io::Result<usize> {
+        self.step()?;
+        if let Ok(file) = self.find(path) {
+            self.files[file].written.clear();
+            return Ok(file);
+        }
+        self.files.push(Content::default());
+        self.names.insert(path.into(), self.files.len() - 1);
+        Ok(self.files.len() - 1)
+    }
+
+    /// Where it is stopped, half of the bytes are written.
+    fn write(&mut self, &mut file: &mut usize, bytes: &[u8]) -> io::Result<()> {
+        let length = if self.stopped() {
+            bytes.len() / 2
+        } else {
+            bytes.len()
+        };
+        self.files[file].written.extend(&bytes[..length]);
+        self.step()
+    }
+
+    fn sync(&mut self, &mut file: &mut usize) -> io::Result<()> {
+        self.step()?;
+        let content = &mut self.files[file];
+        content.synced.clone_from(&content.written);
+        Ok(())
+    }
+
+    fn rename(&mut self, from: &Path, to: &Path) -> io::Result<()> {
+        self.step()?;
+        let file = self.find(from)?;
+        self.names.remove(from);
+        self.names.insert(to.into(), file);
+        Ok(())
+    }
+
+    fn sync_folder(&mut self, _folder: &Path) -> io::Result<()> {
+        self.step()?;
+        self.synced_names.clone_from(&self.names);
+        Ok(())
+    }
+}

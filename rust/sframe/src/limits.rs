@@ -1,0 +1,29 @@
+//! The sizes that a caller plans by.
+
+use crate::{Suite, MAX_HEADER};
+
+/// The length of a record: a store of `n` keys takes `n` times as many bytes.
+pub const RECORD: usize = 80;
+/// The most records of a store.
+pub const MAX_RECORDS: usize = 64;
+/// The shortest base key.
+pub const MIN_BASE_KEY: usize = 16;
+/// The longest base key.
+pub const MAX_BASE_KEY: usize = 64;
+/// The longest plaintext.
+pub const MAX_PLAINTEXT: usize = 32_768;
+/// The longest metadata.
+pub const MAX_METADATA: usize = 1_024;
+/// How many frames one key seals: its counters stay below this.
+pub const MAX_COUNTER: u64 = 1 << 40;
+
+/// A room that is long enough for every frame of `plaintext` bytes.
+///
+/// ```
+/// use sframe::{frame_room, Suite};
+///
+/// assert_eq!(frame_room(Suite::Aes128CtrHmacSha256_80, 1_200), 17 + 1_200 + 10);
+/// ```
+pub const fn frame_room(suite: Suite, plaintext: usize) -> usize {
+    plaintext.saturating_add(MAX_HEADER + suite.nt())
+}

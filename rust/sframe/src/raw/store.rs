@@ -1,0 +1,96 @@
+//! The six calls on a store.
+
+use super::{Written, UNSET};
+use crate::ffi;
+
+/// Makes every record of `store` empty.
+pub fn make(store: &mut [u8]) -> u32 {
+    // SAFETY: `store` is a live slice of that length that nothing else refers to.
+    unsafe { ffi::sframe_make(store.as_mut_ptr(), store.len()) }
+}
+
+/// Adds a key for sealing.
+pub fn add_sending(store: &mut [u8], kid: u64, suite: u64, base_key: &[u8]) -> u32 {
+    // SAFETY: both slices are live and of the lengths given; `store` is borrowed
+    // for writing, so `base_key` is no part of it.
+    unsafe {
+        ffi::sframe_add_sending(
+            store.as_mut_ptr(),
+            store.len(),
+            kid,
+            suite,
+            base_key.as_ptr(),
+            base_key.len(),
+        )
+    }
+}
+
+/// Adds a key for opening.
+pub fn add_receiving(store: &mut [u8], kid: u64, suite: u64, base_key: &[u8]) -> u32 {
+    // SAFETY: as in `add_sending`.
+    unsafe {
+        ffi::sframe_add_receiving(
+            store.as_mut_ptr(),
+            store.len(),
+            kid,
+            suite,
+            base_key.as_ptr(),
+            base_key.len(),
+        )
+    }
+}
+
+/// Removes a key.
+pub fn remove(store: &mut [u8], kid: u64) -> u32 {
+    // SAFETY: `store` is a live slice of that length that nothing else refers to.
+    unsafe { ffi::sframe_remove(store.as_mut_ptr(), store.len(), kid) }
+}
+
+/// Seals `plaintext` into a frame at the front of `out`.
+pub fn seal(
+    store: &mut [u8],
+    kid: u64,
+    metadata: &[u8],
+    plaintext: &[u8],
+    out: &mut [u8],
+) -> Written {
+    let mut length = UNSET as usize;
+    // SAFETY: the slices are live and of the lengths given; `store` and `out` are
+    // borrowed for writing, so they overlap nothing; `length` is a local of its own.
+    let number = unsafe {
+        ffi::sframe_seal(
+            store.as_mut_ptr(),
+            store.len(),
+            kid,
+            metadata.as_ptr(),
+            metadata.len(),
+            plaintext.as_ptr(),
+            plaintext.len(),
+            out.as_mut_ptr(),
+            out.len(),
+            &mut length,
+        )
+    };
+    Written { number, length }
+}
+
+/// Opens `frame` to its plaintext at the front of `out`.
+pub fn open(store: &[u8], frame: &[u8], metadata: &[u8], out: &mut [u8]) -> Written {
+    let mut length = UNSET as usize;
+    // SAFETY: the slices are live and of the lengths given; `out` is borrowed for
+    // writing, so it overlaps nothing; `length` is a local of its own.
+    let number = unsafe {
+        ffi::sframe_open(
+            store.as_ptr(),
+            store.len(),
+            frame.as_ptr(),
+            frame.len(),
+            metadata.as_ptr(),
+            metadata.len(),
+            out.as_mut_ptr(),
+            out.len(),
+            &mut length,
+        )
+    };
+    Written { number, length }
+}

@@ -1,0 +1,69 @@
+//! What the records of a store say besides their keys.
+
+use crate::limits::RECORD;
+use crate::{Ctr, Kid, Suite};
+use std::fmt;
+
+/// What a record is for.
+#[derive(Clone, Copy, Debug, PartialEq, Eq, Hash)]
+pub enum State {
+    /// Its key seals.
+    Sending,
+    /// Its key opens.
+    Receiving,
+    /// Its key sealed and was removed; the key number stays taken.
+    Retired,
+}
+
+impl fmt::Display for State {
+    fn fmt(&self, f: &mut fmt::Formatter) -> fmt::Result {
+        f.pad(match self {
+            State::Sending => "sending",
+            State::Receiving => "receiving",
+            State::Retired => "retired",
+        })
+    }
+}
+
+/// One record of a store. Key and salt are not shown.
+#[derive(Clone, Copy, Debug, PartialEq, Eq, Hash)]
+pub struct Record {
+    /// Its place in the store, from 0.
+    pub place: usize,
+    /// What it is for.
+    pub state: State,
+    /// The suite of its key.
+    pub suite: Suite,
+    /// Its key number.
+    pub kid: Kid,
+    /// The counter of the next frame that it seals; 0 where it is receiving.
+    pub next: Ctr,
+}
+
+/// The records of a sound store, in the order of their places; empty ones are
+/// left out.
+pub(crate) fn decode(store: &[u8]) -> Vec<Record> {
+    store
+        .chunks_exact(RECORD)
+        .enumerate()
+        .filter_map(|(place, bytes)| decode_one(place, bytes))
+        .collect()
+}
+
+fn decode_one(place: usize, bytes: &[u8]) -> Option<Record> {
+    let (&[state, suite, _, _], rest) = bytes.split_first_chunk()?;
+    let (&kid, rest) = rest.split_first_chunk()?;
+    let &next = rest.first_chunk()?;
+    Some(Record {
+        place,
+        state: match state {
+            1 => State::Sending,
+            2 => State::Receiving,
+            3 => State::Retired,
+            _ => return None,
+        },
+        suite: Suite::from_number(suite.into())?,
+        kid: Kid(u64::from_be_bytes(kid)),
+        next: Ctr(u64::from_be_bytes(next)),
+    })
+}

@@ -1,0 +1,255 @@
+//! The store of keys in lent bytes.
+
+use crate::limits::{frame_room, MAX_PLAINTEXT};
+use crate::{raw, Kid, Metadata, Record, Refusal, StoreView, Suite};
+use std::fmt;
+
+/// What a key is added for.
+#[derive(Clone, Copy, Debug, PartialEq, Eq, Hash)]
+pub enum Role {
+    /// For sealing.
+    Sending,
+    /// For opening.
+    Receiving,
+}
+
+impl fmt::Display for Role {
+    fn fmt(&self, f: &mut fmt::Formatter) -> fmt::Result {
+        f.pad(match self {
+            Role::Sending => "sending",
+            Role::Receiving => "receiving",
+        })
+    }
+}
+
+/// A store of keys in bytes that the caller lends, 80 for each key.
+///
+/// Each call judges the whole store before it uses it. A refused call changes
+/// nothing.
+///
+/// ```
+/// use sframe::{frame_room, Kid, Metadata, Refusal, Role, Store, Suite, RECORD};
+///
+/// let suite = Suite::Aes128CtrHmacSha256_80;
+/// let (mut ward, mut doctor) = ([0; 2 * RECORD], [0; 2 * RECORD]);
+/// let mut ward = Store::make(&mut ward)?;
+/// let mut doctor = Store::make(&mut doctor)?;
+/// ward.add(Role::Sending, suite, Kid(200), b"sixteen or more bytes")?;
+/// doctor.add(Role::Receiving, suite, Kid(200), b"sixteen or more bytes")?;
+///
+/// let picture = b"a picture";
+/// let mut room = [0; frame_room(Suite::Aes128CtrHmacSha256_80, 9)];
+/// let length = ward.seal(Kid(200), Metadata(b"camera 2"), picture, &mut room)?;
+/// let frame = &room[..length];
+///
+/// let mut opened = [0; 9];
+/// assert_eq!(doctor.open(frame, Metadata(b"camera 2"), &mut opened)?, 9);
+/// assert_eq!(&opened, picture);
+///
+/// // A frame that fails its tag shows nothing of itself.
+/// let mut nothing = [0; 9];
+/// let refused = doctor.open(frame, Metadata(b"camera 3"), &mut nothing);
+/// assert_eq!(refused, Err(Refusal::TagDiffers));
+/// assert_eq!(nothing, [0; 9]);
+/// # Ok::<(), Refusal>(())
+/// ```
+///
+/// Whoever holds a store holds it alone: two at once over the same bytes could
+/// use one counter twice.
+///
+/// ```compile_fail,E0499
+/// use sframe::{Kid, Metadata, Store};
+///
+/// let mut bytes = [0; 80];
+/// let mut one = Store::over(&mut bytes);
+/// let mut other = Store::over(&mut bytes);
+/// one.remove(Kid(200))?;
+/// # Ok::<(), sframe::Refusal>(())
+/// ```
+///
+/// The room is never a part of the store:
+///
+/// ```compile_fail,E0499
+/// use sframe::{Kid, Metadata, Store};
+///
+/// let mut bytes = [0; 160];
+/// let mut store = Store::over(&mut bytes);
+/// store.seal(Kid(200), Metadata::NONE, b"picture", &mut bytes[80..])?;
+/// # Ok::<(), sframe::Refusal>(())
+/// ```
+///
+/// Nor is a store copied by a slip, since a copy would seal with counters that
+/// the original uses too:
+///
+/// ```compile_fail,E0599
+/// use sframe::Store;
+///
+/// let mut bytes = [0; 80];
+/// let copy = Store::over(&mut bytes).clone();
+/// ```
+pub struct Store<'a>(&'a mut [u8]);
+
+impl<'a> Store<'a> {
+    /// Makes a store of empty records; whatever `bytes` held is gone.
+    ///
+    /// Refuses with [`Refusal::StoreNotSound`] where the length is no multiple of
+    /// [`RECORD`](crate::RECORD), or takes fewer than 1 or more than
+    /// [`MAX_RECORDS`](crate::MAX_RECORDS) of them.
+    ///
+    /// ```
+    /// use sframe::{Refusal, Store};
+    ///
+    /// assert!(Store::make(&mut [0; 5_120]).is_ok());
+    /// assert_eq!(Store::make(&mut [0; 81]).err(), Some(Refusal::StoreNotSound));
+    /// ```
+    pub fn make(bytes: &'a mut [u8]) -> Result<Self, Refusal> {
+        Refusal::check(raw::make(bytes), ())?;
+        Ok(Store(bytes))
+    }
+
+    /// The store that `bytes` hold already. Each call judges them anew, so any
+    /// bytes may be given.
+    ///
+    /// ```
+    /// use sframe::{Kid, Refusal, Store};
+    ///
+    /// let mut bytes = [0xff; 80];
+    /// let mut store = Store::over(&mut bytes);
+    /// assert_eq!(store.remove(Kid(200)), Err(Refusal::StoreNotSound));
+    /// ```
+    pub fn over(bytes: &'a mut [u8]) -> Self {
+        Store(bytes)
+    }
+
+    /// Adds the key that `suite` derives from `base_key` for `kid`, in the first
+    /// empty record.
+    ///
+    /// A key number that was added for sending is never added again in this
+    /// store, so that its counters do not start anew.
+    ///
+    /// Refusals, the first that holds: [`StoreNotSound`](Refusal::StoreNotSound),
+    /// [`BaseKeyLength`](Refusal::BaseKeyLength), [`KidHeld`](Refusal::KidHeld),
+    /// [`StoreFull`](Refusal::StoreFull).
+    pub fn add(
+        &mut self,
+        role: Role,
+        suite: Suite,
+        kid: Kid,
+        base_key: &[u8],
+    ) -> Result<(), Refusal> {
+        let add = match role {
+            Role::Sending => raw::add_sending,
+            Role::Receiving => raw::add_receiving,
+        };
+        Refusal::check(add(self.0, kid.0, suite.number(), base_key), ())
+    }
+
+    /// Removes the key of `kid`. A receiving one leaves its record empty; a
+    /// sending one leaves a retired record that keeps the key number.
+    ///
+    /// Refusals, the first that holds: [`StoreNotSound`](Refusal::StoreNotSound),
+    /// [`KidUnknown`](Refusal::KidUnknown), [`WrongRole`](Refusal::WrongRole).
+    ///
+    /// ```
+    /// use sframe::{Kid, Refusal, Role, Store, Suite};
+    ///
+    /// let mut bytes = [0; 80];
+    /// let mut store = Store::make(&mut bytes)?;
+    /// let suite = Suite::Aes128GcmSha256_128;
+    /// store.add(Role::Sending, suite, Kid(200), &[7; 16])?;
+    /// store.remove(Kid(200))?;
+    /// let again = store.add(Role::Sending, suite, Kid(200), &[7; 16]);
+    /// assert_eq!(again, Err(Refusal::KidHeld));
+    /// # Ok::<(), Refusal>(())
+    /// ```
+    pub fn remove(&mut self, kid: Kid) -> Result<(), Refusal> {
+        Refusal::check(raw::remove(self.0, kid.0), ())
+    }
+
+    /// Seals `plaintext` under the key of `kid` and its next counter, into a
+    /// frame at the front of `room`, and answers the frame's length. The bytes
+    /// behind it stay as they are. [`frame_room`] bytes are always enough.
+    ///
+    /// Refusals, the first that holds: [`StoreNotSound`](Refusal::StoreNotSound),
+    /// [`KidUnknown`](Refusal::KidUnknown), [`WrongRole`](Refusal::WrongRole),
+    /// [`CounterSpent`](Refusal::CounterSpent), [`TooLong`](Refusal::TooLong),
+    /// [`RoomShort`](Refusal::RoomShort). A refusal uses no counter.
+    pub fn seal(
+        &mut self,
+        kid: Kid,
+        metadata: Metadata,
+        plaintext: &[u8],
+        room: &mut [u8],
+    ) -> Result<usize, Refusal> {
+        let written = raw::seal(self.0, kid.0, metadata.0, plaintext, room);
+        Refusal::check(written.number, written.length)
+    }
+
+    /// Seals `plaintext` into a frame of its own. Refuses as [`seal`](Self::seal)
+    /// does, except that the room suffices.
+    ///
+    /// ```
+    /// use sframe::{Kid, Metadata, Role, Store, Suite};
+    ///
+    /// let mut bytes = [0; 80];
+    /// let mut store = Store::make(&mut bytes)?;
+    /// store.add(Role::Sending, Suite::Aes128GcmSha256_128, Kid(1), &[7; 16])?;
+    /// let frame = store.seal_to_vec(Kid(1), Metadata::NONE, b"")?;
+    /// assert_eq!((frame.len(), frame[0]), (17, 0x10));
+    /// # Ok::<(), sframe::Refusal>(())
+    /// ```
+    pub fn seal_to_vec(
+        &mut self,
+        kid: Kid,
+        metadata: Metadata,
+        plaintext: &[u8],
+    ) -> Result<Vec<u8>, Refusal> {
+        const LONGEST_TAG: Suite = Suite::Aes128GcmSha256_128;
+        let mut frame = vec![0; frame_room(LONGEST_TAG, plaintext.len().min(MAX_PLAINTEXT))];
+        let length = self.seal(kid, metadata, plaintext, &mut frame)?;
+        frame.truncate(length);
+        Ok(frame)
+    }
+
+    /// As [`StoreView::open`].
+    pub fn open(
+        &self,
+        frame: &[u8],
+        metadata: Metadata,
+        room: &mut [u8],
+    ) -> Result<usize, Refusal> {
+        self.view().open(frame, metadata, room)
+    }
+
+    /// As [`StoreView::open_to_vec`].
+    pub fn open_to_vec(&self, frame: &[u8], metadata: Metadata) -> Result<Vec<u8>, Refusal> {
+        self.view().open_to_vec(frame, metadata)
+    }
+
+    /// The records in use, by rising place, without their keys.
+    ///
+    /// Refuses with [`Refusal::StoreNotSound`].
+    ///
+    /// ```
+    /// use sframe::{Ctr, Kid, Metadata, Role, State, Store, Suite};
+    ///
+    /// let mut bytes = [0; 160];
+    /// let mut store = Store::make(&mut bytes)?;
+    /// store.add(Role::Sending, Suite::Aes128GcmSha256_128, Kid(200), &[7; 16])?;
+    /// store.seal_to_vec(Kid(200), Metadata::NONE, b"picture")?;
+    ///
+    /// let records = store.records()?;
+    /// assert_eq!(records.len(), 1);
+    /// assert_eq!(records[0].state, State::Sending);
+    /// assert_eq!((records[0].kid, records[0].next), (Kid(200), Ctr(1)));
+    /// # Ok::<(), sframe::Refusal>(())
+    /// ```
+    pub fn records(&self) -> Result<Vec<Record>, Refusal> {
+        self.view().records()
+    }
+
+    /// The store lent for reading.
+    pub fn view(&self) -> StoreView<'_> {
+        StoreView::over(self.0)
+    }
+}

@@ -1,0 +1,185 @@
+//! Each refusal as exit status and message, with the store left as it was.
+
+use super::folder::{done, fails, Folder};
+use sframe::Refusal;
+
+/// Checks that a run is refused and that no file has changed.
+#[track_caller]
+fn refused(folder: &Folder, line: &str, refusal: Refusal) {
+    let before: Vec<_> = folder
+        .files()
+        .iter()
+        .map(|file| folder.read(file))
+        .collect();
+    let message = folder.fails(line, refusal.number() as i32);
+    let number = refusal.number();
+    assert_eq!(message, format!("sframe: refused ({number}): {refusal}\n"));
+    let after: Vec<_> = folder
+        .files()
+        .iter()
+        .map(|file| folder.read(file))
+        .collect();
+    assert!(before == after, "{line}");
+}
+
+fn folder(name: &str) -> Folder {
+    let folder = Folder::with_stores(name, 4);
+    folder.write("picture", b"a picture");
+    folder.done("seal ward --kid 200 --in picture --out frame");
+    folder
+}
+
+#[test]
+fn store_not_sound() {
+    let folder = folder("refused-1");
+    refused(&folder, "make other --keys 0", Refusal::StoreNotSound);
+    refused(&folder, "make other --keys 65", Refusal::StoreNotSound);
+    let huge = "make other --keys 18446744073709551615";
+    refused(&folder, huge, Refusal::StoreNotSound);
+    let mut damaged = folder.read("ward");
+    damaged[2] = 1;
+    folder.write("damaged", &damaged);
+    folder.write("long", &vec![0; 100_000]);
+    folder.write("empty", b"");
+    for store in ["damaged", "long", "empty"] {
+        // Makes the lock's file, which stays.
+        folder.run(&format!("remove {store} --kid 200"));
+        for line in [
+            format!("list {store}"),
+            format!("remove {store} --kid 200"),
+            format!("add {store} --sending --kid 1 --suite 9 --key key"),
+            format!("seal {store} --kid 200 --in picture"),
+            format!("open {store} --in frame"),
+        ] {
+            refused(&folder, &line, Refusal::StoreNotSound);
+        }
+    }
+}
+
+#[test]
+fn add_refused() {
+    let folder = folder("refused-2-to-5");
+    folder.write("short", &[7; 15]);
+    folder.write("long", &[7; 65]);
+    folder.write("longer", &[7; 10_000]);
+    let add = |rest: &str| format!("add ward --sending {rest}");
+    for suite in ["0", "6", "256", "18446744073709551615"] {
+        let line = add(&format!("--kid 1 --suite {suite} --key key"));
+        refused(&folder, &line, Refusal::NoSuchSuite);
+    }
+    for key in ["short", "long", "longer"] {
+        let line = add(&format!("--kid 1 --suite 1 --key {key}"));
+        refused(&folder, &line, Refusal::BaseKeyLength);
+    }
+    refused(
+        &folder,
+        &add("--kid 200 --suite 1 --key key"),
+        Refusal::KidHeld,
+    );
+    folder.done(&add("--kid 1 --suite 1 --key key"));
+    refused(
+        &folder,
+        &add("--kid 2 --suite 1 --key key"),
+        Refusal::StoreFull,
+    );
+    folder.done("remove ward --kid 200");
+    refused(
+        &folder,
+        &add("--kid 200 --suite 1 --key key"),
+        Refusal::KidHeld,
+    );
+}
+
+#[test]
+fn unknown_numbers_and_roles() {
+    let folder = folder("refused-6-7");
+    refused(&folder, "remove ward --kid 201", Refusal::KidUnknown);
+    refused(
+        &folder,
+        "seal ward --kid 201 --in picture",
+        Refusal::KidUnknown,
+    );
+    refused(
+        &folder,
+        "seal doctor --kid 200 --in picture",
+        Refusal::WrongRole,
+    );
+    refused(&folder, "open ward --in frame", Refusal::WrongRole);
+    folder.done("remove ward --kid 200");
+    refused(&folder, "remove ward --kid 200", Refusal::WrongRole);
+    refused(
+        &folder,
+        "seal ward --kid 200 --in picture",
+        Refusal::WrongRole,
+    );
+    folder.done("remove doctor --kid 200");
+    refused(&folder, "open doctor --in frame", Refusal::KidUnknown);
+}
+
+#[test]
+fn the_last_counter() {
+    let folder = folder("refused-8");
+    let mut store = folder.read("ward");
+    store[12..20].copy_from_slice(&((1_u64 << 40) - 1).to_be_bytes());
+    folder.write("ward", &store);
+    folder.done("seal ward --kid 200 --in picture --out frame");
+    assert_eq!(folder.done("open doctor --in frame"), b"a picture");
+    refused(
+        &folder,
+        "seal ward --kid 200 --in picture",
+        Refusal::CounterSpent,
+    );
+}
+
+#[test]
+fn too_long() {
+    let folder = folder("refused-9");
+    folder.write("most", &[0; 32_768]);
+    folder.write("more", &[0; 32_769]);
+    folder.write("much", &[0; 1_000_000]);
+    folder.write("metadata", &[0; 1_025]);
+    folder.done("seal ward --kid 200 --in most --out long");
+    assert_eq!(folder.done("open doctor --in long"), [0; 32_768]);
+    for line in [
+        "seal ward --kid 200 --in more",
+        "seal ward --kid 200 --in much",
+        "seal ward --kid 200 --in picture --metadata metadata",
+        "open doctor --in frame --metadata metadata",
+    ] {
+        refused(&folder, line, Refusal::TooLong);
+    }
+    folder.write("much", &[&[0x80, 200][..], &[0; 1_000_000]].concat());
+    refused(&folder, "open doctor --in much", Refusal::TooLong);
+}
+
+#[test]
+fn frames_refused() {
+    let folder = folder("refused-10-11-13");
+    let frame = folder.read("frame");
+    for (bytes, refusal) in [
+        (vec![], Refusal::BadHeader),
+        (vec![0x80], Refusal::BadHeader),
+        (vec![0x80, 7], Refusal::BadHeader),
+        (frame[..2].to_vec(), Refusal::FrameShort),
+        (frame[..17].to_vec(), Refusal::FrameShort),
+        (frame[..18].to_vec(), Refusal::TagDiffers),
+        ([&frame[..], &[0]].concat(), Refusal::TagDiffers),
+    ] {
+        folder.write("damaged", &bytes);
+        refused(&folder, "open doctor --in damaged", refusal);
+        if refusal == Refusal::BadHeader {
+            refused(&folder, "header --in damaged", refusal);
+        }
+    }
+    refused(
+        &folder,
+        "open doctor --in frame --metadata key",
+        Refusal::TagDiffers,
+    );
+    // Nothing of a refused frame is given out, and no file made for it.
+    let open = "open doctor --in damaged --out opened";
+    fails(open, 13, folder.run(open));
+    assert!(!folder.path("opened").exists());
+    let open = "open doctor --in frame";
+    assert_eq!(done(open, folder.run(open)), b"a picture");
+}

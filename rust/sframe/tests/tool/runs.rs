@@ -1,0 +1,178 @@
+//! What the tool does when all is well, and when the caller is wrong.
+
+use super::folder::{done, fails, Folder};
+
+#[test]
+fn every_suite_seals_and_opens() {
+    for suite in 1..=5 {
+        let folder = Folder::with_stores(&format!("suite-{suite}"), suite);
+        folder.write("picture", b"a picture");
+        folder.write("about", b"ward 3");
+        for counter in 0..3 {
+            folder.done("seal ward --kid 200 --in picture --out frame --metadata about");
+            let header = folder.done("header --in frame");
+            let expected = format!("key number 200, counter {counter}, header of 2 bytes\n");
+            assert_eq!(header, expected.as_bytes());
+            folder.done("open doctor --in frame --out opened --metadata about");
+            assert_eq!(folder.read("opened"), b"a picture");
+        }
+    }
+}
+
+#[test]
+fn streams_and_hex() {
+    let folder = Folder::with_stores("streams", 4);
+    let seal = "seal ward --kid 200 --hex";
+    let hex = done(seal, folder.run_with_input(seal, b"a picture"));
+    assert_eq!(hex.len(), 2 * (2 + 9 + 16) + 1);
+    let open = "open doctor --hex";
+    assert_eq!(done(open, folder.run_with_input(open, &hex)), b"a picture");
+
+    let header = "header --in - --hex";
+    let text = done(header, folder.run_with_input(header, &hex));
+    assert_eq!(text, b"key number 200, counter 0, header of 2 bytes\n");
+    assert_eq!(folder.done("header --kid 200 --ctr 0"), b"80c8\n");
+}
+
+/// Raw or in hex, from a file or from standard input, it is the same key.
+#[test]
+fn ways_to_give_a_key() {
+    let folder = Folder::with_stores("keys", 5);
+    let text = "07 ".repeat(31) + "07\n";
+    folder.write("text", text.as_bytes());
+    folder.write("picture", b"a picture");
+    folder.done("seal ward --kid 200 --in picture --out frame");
+    for (place, key) in [("first", "--key text --hex"), ("second", "--key - --hex")] {
+        folder.done(&format!("make {place} --keys 1"));
+        let add = format!("add {place} --receiving --kid 200 --suite 5 {key}");
+        done(&add, folder.run_with_input(&add, text.as_bytes()));
+        assert_eq!(
+            folder.done(&format!("open {place} --in frame")),
+            b"a picture"
+        );
+    }
+}
+
+#[test]
+fn list_shows_everything_but_keys() {
+    let folder = Folder::with_stores("list", 4);
+    folder.write("nothing", b"");
+    folder.done("seal ward --kid 200 --in nothing --out frame");
+    folder.done("add ward --sending --kid 0xffffffffffffffff --suite 1 --key key");
+    folder.done("remove ward --kid 0xffffffffffffffff");
+    let list = String::from_utf8(folder.done("list ward")).unwrap();
+    let rows: Vec<Vec<&str>> = list
+        .lines()
+        .map(|line| line.split_whitespace().collect())
+        .collect();
+    assert_eq!(
+        rows[1],
+        ["sending", "4", "AES_128_GCM_SHA256_128", "200", "1"]
+    );
+    let retired = "18446744073709551615";
+    assert_eq!(
+        rows[2],
+        ["retired", "1", "AES_128_CTR_HMAC_SHA256_80", retired, "0"]
+    );
+    assert_eq!(rows[3].join(" "), "2 of 2 records in use");
+
+    let empty = Folder::new("list-empty");
+    empty.done("make store --keys 64");
+    let list = String::from_utf8(empty.done("list store")).unwrap();
+    assert!(list.ends_with("0 of 64 records in use\n"), "{list}");
+}
+
+#[test]
+fn help_names_every_command() {
+    let folder = Folder::new("help");
+    let help = String::from_utf8(folder.done("--help")).unwrap();
+    for command in ["make", "add", "remove", "list", "seal", "open", "header"] {
+        assert!(help.contains(&format!("sframe {command} ")), "{command}");
+    }
+    assert!(help.lines().all(|line| line.len() <= 80));
+    assert_eq!(folder.done("seal --help"), help.as_bytes());
+}
+
+#[test]
+fn wrong_command_lines() {
+    let folder = Folder::with_stores("usage", 4);
+    for line in [
+        "",
+        "frobnicate",
+        "seal ward",
+        "list",
+        "seal ward --kid 1 --in",
+    ] {
+        folder.fails(line, 64);
+    }
+    // The result is not written over the store.
+    folder.write("picture", b"a picture");
+    let before = folder.read("ward");
+    folder.fails("seal ward --kid 200 --in picture --out ward", 64);
+    folder.fails(
+        "seal ward --kid 200 --in picture --out ./../tool-usage/ward",
+        64,
+    );
+    assert_eq!(folder.read("ward"), before);
+}
+
+#[test]
+fn inputs_that_are_no_hex() {
+    let folder = Folder::with_stores("no-hex", 4);
+    let open = "open doctor --hex";
+    for text in ["8", "80c", "zz", "0x80"] {
+        fails(open, 65, folder.run_with_input(open, text.as_bytes()));
+    }
+    let long = "00".repeat(400_000);
+    fails(open, 65, folder.run_with_input(open, long.as_bytes()));
+}
+
+#[test]
+fn files_that_fail() {
+    let folder = Folder::with_stores("files", 4);
+    let before = folder.files();
+    for line in [
+        "list nowhere",
+        "seal nowhere --kid 200 --in key",
+        "seal ward --kid 200 --in nowhere",
+        "add ward --sending --kid 1 --suite 1 --key nowhere",
+        "open doctor --in nowhere",
+        "make no/where --keys 1",
+        "seal ward --kid 200 --in key --out no/where",
+    ] {
+        folder.fails(line, 74);
+    }
+    assert_eq!(folder.files(), before);
+}
+
+/// Making anew would start the counters from 0.
+#[test]
+fn make_replaces_no_file() {
+    let folder = Folder::with_stores("make", 4);
+    let before = folder.read("ward");
+    folder.fails("make ward --keys 2", 74);
+    assert_eq!(folder.read("ward"), before);
+}
+
+#[cfg(unix)]
+#[test]
+fn a_store_is_its_owners_alone() {
+    use std::os::unix::fs::PermissionsExt;
+    let folder = Folder::with_stores("mode", 4);
+    let metadata = std::fs::metadata(folder.path("ward")).unwrap();
+    assert_eq!(metadata.permissions().mode() & 0o777, 0o600);
+}
+
+/// A store with two names is locked and replaced as one.
+#[cfg(unix)]
+#[test]
+fn a_link_stays_a_link() {
+    let folder = Folder::with_stores("link", 4);
+    std::os::unix::fs::symlink("ward", folder.path("link")).unwrap();
+    folder.write("picture", b"a picture");
+    folder.done("seal link --kid 200 --in picture --out frame");
+    folder.done("seal ward --kid 200 --in picture --out frame");
+    let header = folder.done("header --in frame");
+    assert!(header.starts_with(b"key number 200, counter 1,"));
+    assert!(folder.path("link").is_symlink());
+}

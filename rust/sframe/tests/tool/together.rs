@@ -1,0 +1,69 @@
+//! Several runs at once, and runs that are killed: every frame that was given
+//! out has a counter of its own.
+
+use super::folder::Folder;
+use sframe::{read_header, Metadata, StoreView};
+use std::collections::BTreeSet;
+use std::thread;
+use std::time::Duration;
+
+/// The counter of a frame that opens at the other end.
+fn counter(doctor: &[u8], frame: &[u8]) -> u64 {
+    let plaintext = StoreView::over(doctor).open_to_vec(frame, Metadata::NONE);
+    assert_eq!(plaintext.as_deref(), Ok(&b"a picture"[..]));
+    read_header(frame).expect("a header").ctr.0
+}
+
+#[test]
+fn many_at_once() {
+    const THREADS: usize = 8;
+    const RUNS: usize = 12;
+    let folder = Folder::with_stores("together", 4);
+    folder.write("picture", b"a picture");
+    let doctor = folder.read("doctor");
+    let counters: BTreeSet<u64> = thread::scope(|scope| {
+        let threads: Vec<_> = (0..THREADS)
+            .map(|_| {
+                scope.spawn(|| {
+                    let seal = |_| folder.done("seal ward --kid 200 --in picture");
+                    (0..RUNS).map(seal).collect::<Vec<_>>()
+                })
+            })
+            .collect();
+        let frames = threads
+            .into_iter()
+            .flat_map(|thread| thread.join().unwrap());
+        frames.map(|frame| counter(&doctor, &frame)).collect()
+    });
+    assert!(counters.into_iter().eq(0..(THREADS * RUNS) as u64));
+}
+
+/// The time after which a run is killed sweeps over the length of a run.
+#[test]
+fn killed_at_any_time() {
+    let folder = Folder::with_stores("killed", 4);
+    folder.write("picture", b"a picture");
+    let doctor = folder.read("doctor");
+    let mut last = None;
+    for run in 0..100 {
+        let mut child = folder
+            .command("seal ward --kid 200 --in picture")
+            .spawn()
+            .expect("the tool starts");
+        thread::sleep(Duration::from_micros(run * 40));
+        // It may have ended by itself.
+        let _ = child.kill();
+        let output = child.wait_with_output().expect("the tool ends");
+        if !output.stdout.is_empty() {
+            let counter = counter(&doctor, &output.stdout);
+            assert!(last < Some(counter), "{counter} after {last:?}");
+            last = Some(counter);
+        }
+        let store = folder.read("ward");
+        let records = StoreView::over(&store).records().expect("a sound store");
+        assert!(last < Some(records[0].next.0));
+    }
+    // No lock outlasts its run.
+    let frame = folder.done("seal ward --kid 200 --in picture");
+    assert!(last < Some(counter(&doctor, &frame)));
+}

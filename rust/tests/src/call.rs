@@ -1,0 +1,221 @@
+//! One call on a store, made on both sides.
+
+use crate::lent::Lent;
+use crate::number::DONE;
+use reference::refusal::number_and_length;
+use sframe::raw::{self, Written};
+use sframe::Role;
+use std::fmt;
+use testkit::PATTERN;
+
+/// A call with all that it is given; a room by its length.
+#[derive(Clone, Copy)]
+#[allow(missing_docs)]
+pub enum Call<'a> {
+    Make,
+    Add {
+        role: Role,
+        suite: u64,
+        kid: u64,
+        base_key: &'a [u8],
+    },
+    Remove {
+        kid: u64,
+    },
+    Seal {
+        kid: u64,
+        metadata: &'a [u8],
+        plaintext: &'a [u8],
+        room: usize,
+    },
+    Open {
+        frame: &'a [u8],
+        metadata: &'a [u8],
+        room: usize,
+    },
+}
+
+/// What a call answered and left.
+#[derive(PartialEq, Eq)]
+pub struct Outcome {
+    /// 0, or the refusal's number.
+    pub number: u32,
+    /// The length of the result.
+    pub length: usize,
+    /// The store afterwards.
+    pub store: Vec<u8>,
+    /// The room afterwards.
+    pub room: Vec<u8>,
+}
+
+impl Outcome {
+    /// The result at the front of the room.
+    pub fn result(&self) -> &[u8] {
+        &self.room[..self.length]
+    }
+}
+
+/// Makes `call` on a copy of `store` on both sides, and checks that number,
+/// length, store and room are the same, that a refusal left everything as it
+/// was, and that nothing behind a result was written.
+#[track_caller]
+pub fn compare(store: &[u8], call: Call) -> Outcome {
+    let ours = on_layer(store, call);
+    let theirs = on_reference(store, call);
+    assert_eq!(
+        (ours.number, ours.length),
+        (theirs.number, theirs.length),
+        "{call}: number and length"
+    );
+    check_same("store", &ours.store, &theirs.store, call);
+    check_same("room", &ours.room, &theirs.room, call);
+
+    let rest = &ours.room[ours.length..];
+    assert!(
+        rest.iter().all(|&byte| byte == PATTERN),
+        "{call}: wrote behind its result"
+    );
+    if ours.number != DONE || matches!(call, Call::Open { .. }) {
+        check_same("store before and after", &ours.store, store, call);
+    }
+    if ours.number != DONE {
+        assert_eq!(ours.length, 0, "{call}: refused with a length");
+    }
+    ours
+}
+
+#[track_caller]
+fn check_same(what: &str, ours: &[u8], theirs: &[u8], call: Call) {
+    if ours != theirs {
+        let differing = ours.iter().zip(theirs).position(|(a, b)| a != b);
+        panic!("{call}: {what} differs, first at byte {differing:?}");
+    }
+}
+
+#[track_caller]
+fn on_layer(store: &[u8], call: Call) -> Outcome {
+    let mut store = Lent::copy(store);
+    let mut room = Lent::room(call.room());
+    let done = |number| Written { number, length: 0 };
+    let Written { number, length } = match call {
+        Call::Make => done(raw::make(store.lend())),
+        Call::Add {
+            role,
+            suite,
+            kid,
+            base_key,
+        } => {
+            let add = match role {
+                Role::Sending => raw::add_sending,
+                Role::Receiving => raw::add_receiving,
+            };
+            done(add(store.lend(), kid, suite, base_key))
+        }
+        Call::Remove { kid } => done(raw::remove(store.lend(), kid)),
+        Call::Seal {
+            kid,
+            metadata,
+            plaintext,
+            ..
+        } => raw::seal(store.lend(), kid, metadata, plaintext, room.lend()),
+        Call::Open {
+            frame, metadata, ..
+        } => raw::open(store.bytes(), frame, metadata, room.lend()),
+    };
+    Outcome {
+        number,
+        length,
+        store: store.take_back(),
+        room: room.take_back(),
+    }
+}
+
+fn on_reference(store: &[u8], call: Call) -> Outcome {
+    use reference::store::{add, make, open, remove, seal, Role as ReferenceRole};
+    let mut store = store.to_vec();
+    let mut room = vec![PATTERN; call.room()];
+    let answer = match call {
+        Call::Make => make(&mut store),
+        Call::Add {
+            role,
+            suite,
+            kid,
+            base_key,
+        } => {
+            let role = match role {
+                Role::Sending => ReferenceRole::Sending,
+                Role::Receiving => ReferenceRole::Receiving,
+            };
+            add(&mut store, role, suite, kid, base_key)
+        }
+        Call::Remove { kid } => remove(&mut store, kid),
+        Call::Seal {
+            kid,
+            metadata,
+            plaintext,
+            ..
+        } => seal(&mut store, kid, metadata, plaintext, &mut room),
+        Call::Open {
+            frame, metadata, ..
+        } => open(&store, metadata, frame, &mut room),
+    };
+    let (number, length) = number_and_length(answer);
+    Outcome {
+        number,
+        length,
+        store,
+        room,
+    }
+}
+
+impl Call<'_> {
+    /// The length of the room, 0 where the call has none.
+    fn room(&self) -> usize {
+        match *self {
+            Call::Seal { room, .. } | Call::Open { room, .. } => room,
+            Call::Make | Call::Add { .. } | Call::Remove { .. } => 0,
+        }
+    }
+}
+
+/// Short enough for a failure's message.
+impl fmt::Display for Call<'_> {
+    fn fmt(&self, f: &mut fmt::Formatter) -> fmt::Result {
+        match *self {
+            Call::Make => write!(f, "Make"),
+            Call::Add {
+                role,
+                suite,
+                kid,
+                base_key,
+            } => write!(
+                f,
+                "Add for {role}, suite {suite}, KID {kid:#x}, base key of {} bytes",
+                base_key.len()
+            ),
+            Call::Remove { kid } => write!(f, "Remove, KID {kid:#x}"),
+            Call::Seal {
+                kid,
+                metadata,
+                plaintext,
+                room,
+            } => write!(
+                f,
+                "Seal, KID {kid:#x}, metadata of {} bytes, plaintext of {}, room of {room}",
+                metadata.len(),
+                plaintext.len()
+            ),
+            Call::Open {
+                frame,
+                metadata,
+                room,
+            } => write!(
+                f,
+                "Open, frame of {} bytes that starts {:02x?}, metadata of {}, room of {room}",
+                frame.len(),
+                &frame[..frame.len().min(17)],
+                metadata.len()
+            ),
+        }
+    }
+}

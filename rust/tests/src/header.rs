@@ -1,0 +1,57 @@
+//! The header calls on both sides.
+
+use crate::number::{BAD_HEADER, DONE, ROOM_SHORT};
+use reference::header;
+use sframe::raw::{self, Read, Written};
+use testkit::PATTERN;
+
+/// Writes a header into a room of `room` bytes on both sides.
+#[track_caller]
+pub fn compare_write_header(kid: u64, ctr: u64, room: usize) -> Written {
+    let header = header::write_header(kid, ctr);
+    let mut expected_room = vec![PATTERN; room];
+    let expected = match expected_room.get_mut(..header.len()) {
+        Some(front) => {
+            front.copy_from_slice(&header);
+            Written {
+                number: DONE,
+                length: header.len(),
+            }
+        }
+        None => Written {
+            number: ROOM_SHORT,
+            length: 0,
+        },
+    };
+
+    let mut out = vec![PATTERN; room];
+    let written = raw::write_header(kid, ctr, &mut out);
+    assert_eq!(written, expected, "KID {kid:#x}, CTR {ctr:#x}, room {room}");
+    assert_eq!(
+        out, expected_room,
+        "KID {kid:#x}, CTR {ctr:#x}, room {room}"
+    );
+    written
+}
+
+/// Reads the header that `bytes` begin with on both sides.
+#[track_caller]
+pub fn compare_read_header(bytes: &[u8]) -> Read {
+    let expected = match header::read_header(bytes) {
+        Some((kid, ctr, length)) => Read {
+            number: DONE,
+            kid,
+            ctr,
+            length,
+        },
+        None => Read {
+            number: BAD_HEADER,
+            kid: 0,
+            ctr: 0,
+            length: 0,
+        },
+    };
+    let read = raw::read_header(bytes);
+    assert_eq!(read, expected, "{bytes:02x?}");
+    read
+}

@@ -1,0 +1,11 @@
+//! What lists of calls are made of.
+
+mod given;
+mod stores;
+mod tally;
+mod terminal;
+
+pub use given::Given;
+pub use stores::{damage, sound_store};
+pub use tally::Tally;
+pub use terminal::{step, Terminal};

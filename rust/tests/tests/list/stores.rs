@@ -1,0 +1,68 @@
+//! Stores at random: sound ones of any content, and damaged ones.
+
+use reference::suites::SUITES;
+use sframe::{MAX_COUNTER, RECORD};
+use testkit::Generator;
+
+/// A sound store with any records.
+pub fn sound_store(generator: &mut Generator) -> Vec<u8> {
+    let records = *generator.pick(&[1, 1, 2, 3, 4, 7, 16, 64]);
+    let empty = generator.up_to(4);
+    let mut store = vec![0; records * RECORD];
+    for (place, record) in store.chunks_exact_mut(RECORD).enumerate() {
+        if generator.up_to(4) >= empty {
+            fill_record(generator, place, record);
+        }
+    }
+    store
+}
+
+/// Fills a record of any kind, with a key number of its own for each place.
+fn fill_record(generator: &mut Generator, place: usize, record: &mut [u8]) {
+    let state = generator.up_to(2) as u8 + 1;
+    let suite = *generator.pick(&SUITES);
+    record[0] = state;
+    record[1] = suite.number() as u8;
+    let kid = generator.any_width() & !0x3f | place as u64;
+    record[4..12].copy_from_slice(&kid.to_be_bytes());
+    if state != 2 {
+        let counter = match generator.up_to(5) {
+            0 => MAX_COUNTER,
+            1 => MAX_COUNTER - 1,
+            2 => MAX_COUNTER - 2,
+            3 => 0,
+            _ => generator.any_width() >> 24,
+        };
+        record[12..20].copy_from_slice(&counter.to_be_bytes());
+    }
+    if state != 3 {
+        generator.fill(&mut record[20..32 + suite.nk()]);
+    }
+}
+
+/// Damages a store in one of many ways; some leave it sound.
+pub fn damage(generator: &mut Generator, store: &mut Vec<u8>) {
+    let at = generator.up_to(store.len() - 1);
+    let places = store.len() / RECORD;
+    let (one, other) = (generator.up_to(places - 1), generator.up_to(places - 1));
+    match generator.up_to(9) {
+        0 => store[at] ^= 1 << generator.up_to(7),
+        1 => store[at] = generator.u64() as u8,
+        // The first bytes of a record have the most rules.
+        2 | 3 => store[one * RECORD + generator.up_to(3)] = generator.up_to(7) as u8,
+        4 => store[one * RECORD + 12 + generator.up_to(7)] = generator.u64() as u8,
+        5 => {
+            store.copy_within(one * RECORD..(one + 1) * RECORD, other * RECORD);
+        }
+        6 => {
+            let from = one * RECORD + 4;
+            store.copy_within(from..from + 8, other * RECORD + 4);
+        }
+        7 => store.truncate(at),
+        8 => store.resize(at + *generator.pick(&[1, RECORD, 64 * RECORD]), 0),
+        _ => {
+            let length = generator.up_to(RECORD);
+            store.extend(generator.bytes(length));
+        }
+    }
+}

@@ -1,0 +1,109 @@
+//! A null pointer is allowed wherever the length beside it is 0.
+
+use comparison::number::*;
+use comparison::{frame, made, with_key, Key};
+use reference::suites::SUITES;
+use sframe::ffi::*;
+use sframe::Role;
+use std::ptr::{null, null_mut};
+
+#[test]
+fn headers() {
+    let (mut kid, mut ctr, mut length) = (1, 1, 1);
+    // SAFETY: a length of 0 lends no byte, and the numbers are locals.
+    let number = unsafe { sframe_read_header(null(), 0, &mut kid, &mut ctr, &mut length) };
+    assert_eq!((number, kid, ctr, length), (BAD_HEADER, 0, 0, 0));
+
+    length = 1;
+    // SAFETY: as above.
+    let number = unsafe { sframe_write_header(0, 0, null_mut(), 0, &mut length) };
+    assert_eq!((number, length), (ROOM_SHORT, 0));
+}
+
+#[test]
+fn stores() {
+    // SAFETY: a length of 0 lends no byte.
+    let numbers = unsafe {
+        [
+            sframe_make(null_mut(), 0),
+            sframe_add_sending(null_mut(), 0, 1, 1, null(), 0),
+            sframe_add_receiving(null_mut(), 0, 1, 1, null(), 0),
+            sframe_remove(null_mut(), 0, 1),
+        ]
+    };
+    assert_eq!(numbers, [STORE_NOT_SOUND; 4]);
+
+    let mut store = made(1);
+    // SAFETY: the store is live and of that length; a length of 0 lends no byte.
+    let numbers = unsafe {
+        [
+            sframe_add_sending(store.as_mut_ptr(), store.len(), 1, 1, null(), 0),
+            sframe_add_receiving(store.as_mut_ptr(), store.len(), 1, 1, null(), 0),
+        ]
+    };
+    assert_eq!(numbers, [BASE_KEY_LENGTH; 2]);
+}
+
+#[test]
+fn metadata_plaintext_and_room() {
+    for suite in SUITES {
+        let key = Key::any(suite, 1);
+        let expected = frame(&key, 0, b"", b"");
+        let mut store = with_key(&made(1), Role::Sending, &key);
+        let mut room = [0; 32];
+        let mut length = 1;
+        // SAFETY: store and room are live, apart, and of the lengths given; a
+        // length of 0 lends no byte; `length` is a local.
+        let number = unsafe {
+            let (store, bytes) = (store.as_mut_ptr(), store.len());
+            let out = room.as_mut_ptr();
+            let refused = sframe_seal(
+                store,
+                bytes,
+                1,
+                null(),
+                0,
+                null(),
+                0,
+                null_mut(),
+                0,
+                &mut length,
+            );
+            assert_eq!((refused, length), (ROOM_SHORT, 0));
+            sframe_seal(store, bytes, 1, null(), 0, null(), 0, out, 32, &mut length)
+        };
+        assert_eq!(number, DONE);
+        assert_eq!(room[..length], expected);
+
+        let store = with_key(&made(1), Role::Receiving, &key);
+        // SAFETY: as above.
+        let number = unsafe {
+            let (store, bytes) = (store.as_ptr(), store.len());
+            let no_frame = sframe_open(
+                store,
+                bytes,
+                null(),
+                0,
+                null(),
+                0,
+                null_mut(),
+                0,
+                &mut length,
+            );
+            assert_eq!((no_frame, length), (BAD_HEADER, 0));
+            let (frame, bytes_of_frame) = (expected.as_ptr(), expected.len());
+            sframe_open(
+                store,
+                bytes,
+                frame,
+                bytes_of_frame,
+                null(),
+                0,
+                null_mut(),
+                0,
+                &mut length,
+            )
+        };
+        assert_eq!((number, length), (DONE, 0));
+    }
+}
