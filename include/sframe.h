@@ -1,17 +1,27 @@
 /*
  * SFrame (RFC 9605): the sealing layer's C interface.
  *
- * Link libsframe_c.a. Every call judges its own input: there is no number and no byte string that it
- * has no answer for. The result is the number of the answer: 0 when it is done, else the number of the
- * cause. A refusal changes no byte of the room that was lent, and gives 0 for every number asked for.
+ * Link libsframe_c.a. Keys are kept in a store, which is bytes that the caller lends to each call; the
+ * library has no memory of its own. A terminal adds keys to its store, seals under the ones for
+ * sending and opens under the ones for receiving. examples/seal_open.c shows it whole.
  *
- * Key numbers (KID) and counters (CTR) are 64 bits wide, so no number of a caller's is cut.
+ * Every call judges its own input: there is no number and no byte string that it has no answer for.
+ * The result is the number of the answer: 0 when it is done, else the number of the cause. Where
+ * several causes hold, the answer is the first in the order in which the call lists them below. A
+ * refusal changes no byte of store or room, and gives 0 for every number asked for.
  *
- * What the caller owes, since no callee can check it:
+ * Key numbers (KID), counters (CTR) and suites are 64 bits wide, so no number of a caller's is cut.
+ *
+ * What the caller owes, since no callee can check it and no proof covers it:
  *   - each pointer is valid for as many bytes as the length beside it says; a byte string whose length
  *     is 0 may be given as a null pointer;
- *   - the pointers for single numbers (kid, ctr, length) are valid and never null;
- *   - the room, and what the other pointers are written through, overlap nothing else of the call.
+ *   - the pointers for single numbers (kid, ctr, length) are valid, aligned and never null;
+ *   - whatever a call writes to (store, room, single numbers) overlaps nothing else of the call;
+ *   - one caller at a time: while a call uses a store, nobody else writes to that store, and nobody
+ *     reads it while a call changes it. Calls of sframe_open alone may share a store;
+ *   - between calls the store stays as the last call left it. A store that is copied, or set back to
+ *     an earlier state, would seal with counters that were used before; so would a store that is made
+ *     again and given the same keys.
  */
 #ifndef SFRAME_H
 #define SFRAME_H
@@ -26,14 +36,123 @@ extern "C" {
 /* The answers. */
 enum sframe_answer {
     SFRAME_DONE = 0,
+    /* The store breaks a rule of its layout. In making: its length is not 80 to 5120 in steps of 80. */
+    SFRAME_STORE_NOT_SOUND = 1,
+    /* The suite is none of enum sframe_suite. */
+    SFRAME_SUITE_UNKNOWN = 2,
+    /* The base key is shorter than SFRAME_MIN_BASE_KEY or longer than SFRAME_MAX_BASE_KEY. */
+    SFRAME_BASE_KEY_LENGTH = 3,
+    /* The store already has a record of the key number, be it a retired one. */
+    SFRAME_KID_HELD = 4,
+    /* The store has no empty record. */
+    SFRAME_STORE_FULL = 5,
+    /* The store has no record of the key number. */
+    SFRAME_KID_UNKNOWN = 6,
+    /* The record is not for this: sealing takes a sending one, opening a receiving one, and a retired
+     * one is not removed again. */
+    SFRAME_WRONG_ROLE = 7,
+    /* The key has sealed 2^40 frames. */
+    SFRAME_COUNTER_SPENT = 8,
+    /* The plaintext exceeds SFRAME_MAX_PLAINTEXT, or the metadata SFRAME_MAX_METADATA. */
+    SFRAME_TOO_LONG = 9,
     /* The header is cut short, or not in its shortest form. */
     SFRAME_HEADER_INVALID = 10,
+    /* The bytes behind the header are fewer than a tag has. */
+    SFRAME_FRAME_SHORT = 11,
     /* The room is shorter than the result. */
-    SFRAME_ROOM_SHORT = 12
+    SFRAME_ROOM_SHORT = 12,
+    /* The tag is not the one of this frame, key and metadata. */
+    SFRAME_TAG_DIFFERS = 13
 };
 
-/* The longest header, in bytes. */
+/* The cipher suites, by their registered numbers. */
+enum sframe_suite {
+    SFRAME_AES_128_CTR_HMAC_SHA256_80 = 1,
+    SFRAME_AES_128_CTR_HMAC_SHA256_64 = 2,
+    SFRAME_AES_128_CTR_HMAC_SHA256_32 = 3,
+    SFRAME_AES_128_GCM_SHA256_128 = 4,
+    SFRAME_AES_256_GCM_SHA512_128 = 5
+};
+
+/* The most keys of a store, and the bytes of a store for so many keys, 1 to SFRAME_MAX_KEYS. */
+#define SFRAME_MAX_KEYS 64
+#define SFRAME_STORE_SIZE(keys) ((size_t)80 * (keys))
+
+/* The limits of base keys, plaintext and metadata, in bytes. */
+#define SFRAME_MIN_BASE_KEY 16
+#define SFRAME_MAX_BASE_KEY 64
+#define SFRAME_MAX_PLAINTEXT 32768
+#define SFRAME_MAX_METADATA 1024
+
+/* The longest header and the longest tag, in bytes. */
 #define SFRAME_MAX_HEADER 17
+#define SFRAME_MAX_TAG 16
+
+/* A room that is enough for the frame of a plaintext of so many bytes, under every suite. */
+#define SFRAME_FRAME_ROOM(plaintext_len) ((size_t)(plaintext_len) + SFRAME_MAX_HEADER + SFRAME_MAX_TAG)
+
+/*
+ * Makes a store with no keys: all of its bytes become zero. What it held before is gone.
+ *
+ * SFRAME_DONE, or SFRAME_STORE_NOT_SOUND where store_len is not SFRAME_STORE_SIZE of 1 to
+ * SFRAME_MAX_KEYS.
+ */
+uint32_t sframe_make(uint8_t *store, size_t store_len);
+
+/*
+ * Adds a key for sealing: what RFC 9605 derives for suite and kid from the base key. It goes to the
+ * first empty record of the store, and its counter starts at 0. A key number that was once added for
+ * sending is never added again, in either role.
+ *
+ * SFRAME_DONE, or the first of SFRAME_STORE_NOT_SOUND, SFRAME_SUITE_UNKNOWN, SFRAME_BASE_KEY_LENGTH,
+ * SFRAME_KID_HELD, SFRAME_STORE_FULL that holds.
+ */
+uint32_t sframe_add_sending(uint8_t *store, size_t store_len, uint64_t kid, uint64_t suite, const uint8_t *base_key,
+                            size_t base_key_len);
+
+/*
+ * Adds a key for opening. As sframe_add_sending in all else.
+ */
+uint32_t sframe_add_receiving(uint8_t *store, size_t store_len, uint64_t kid, uint64_t suite, const uint8_t *base_key,
+                              size_t base_key_len);
+
+/*
+ * Removes a key. The record of a receiving key becomes empty, and its key number may return. That of a
+ * sending key becomes retired, even if it has sealed nothing: key and salt are wiped, the record and
+ * the key number stay taken.
+ *
+ * SFRAME_DONE, or the first of SFRAME_STORE_NOT_SOUND, SFRAME_KID_UNKNOWN, SFRAME_WRONG_ROLE that
+ * holds.
+ */
+uint32_t sframe_remove(uint8_t *store, size_t store_len, uint64_t kid);
+
+/*
+ * Seals a plaintext under the key of kid and its next counter, and writes the frame (header,
+ * ciphertext, tag) to the start of out. The metadata is authenticated with it, but is no part of the
+ * frame.
+ *
+ * SFRAME_DONE: *length is the frame's length, the room beyond it stays as it was, and the record's
+ * counter has gone up by one. SFRAME_FRAME_ROOM says how long a room always suffices.
+ * Else the first of SFRAME_STORE_NOT_SOUND, SFRAME_KID_UNKNOWN, SFRAME_WRONG_ROLE,
+ * SFRAME_COUNTER_SPENT, SFRAME_TOO_LONG, SFRAME_ROOM_SHORT that holds: *length is 0, no counter is
+ * used up, and store and room stay as they were.
+ */
+uint32_t sframe_seal(uint8_t *store, size_t store_len, uint64_t kid, const uint8_t *metadata, size_t metadata_len,
+                     const uint8_t *plaintext, size_t plaintext_len, uint8_t *out, size_t out_len, size_t *length);
+
+/*
+ * Opens a frame, given the metadata of its sealing, and writes the plaintext to the start of out. The
+ * store is not changed. Nothing is written before the tag is found to match. What counts as plaintext
+ * for SFRAME_TOO_LONG are the bytes between header and tag. A room as long as the frame always
+ * suffices.
+ *
+ * SFRAME_DONE: *length is the plaintext's length, and the room beyond it stays as it was.
+ * Else the first of SFRAME_STORE_NOT_SOUND, SFRAME_HEADER_INVALID, SFRAME_KID_UNKNOWN,
+ * SFRAME_WRONG_ROLE, SFRAME_FRAME_SHORT, SFRAME_TOO_LONG, SFRAME_ROOM_SHORT, SFRAME_TAG_DIFFERS that
+ * holds: *length is 0 and the room stays as it was.
+ */
+uint32_t sframe_open(const uint8_t *store, size_t store_len, const uint8_t *frame, size_t frame_len,
+                     const uint8_t *metadata, size_t metadata_len, uint8_t *out, size_t out_len, size_t *length);
 
 /*
  * Writes the header of kid and ctr, in its shortest form, to the start of out.

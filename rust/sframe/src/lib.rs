@@ -28,6 +28,7 @@
 pub mod ffi;
 mod header;
 mod limits;
+mod metadata;
 #[allow(unsafe_code)]
 pub mod raw;
 mod record;
@@ -41,8 +42,9 @@ pub use limits::{
     frame_room, MAX_BASE_KEY, MAX_COUNTER, MAX_METADATA, MAX_PLAINTEXT, MAX_RECORDS, MIN_BASE_KEY,
     RECORD,
 };
+pub use metadata::Metadata;
 pub use record::{Record, State};
 pub use refusal::Refusal;
 pub use store::{Role, Store};
 pub use suite::Suite;
-pub use view::{Metadata, StoreView};
+pub use view::StoreView;

@@ -253,3 +253,10 @@ impl<'a> Store<'a> {
         StoreView::over(self.0)
     }
 }
+
+/// Shows the length alone, since the bytes hold keys.
+impl fmt::Debug for Store<'_> {
+    fn fmt(&self, f: &mut fmt::Formatter) -> fmt::Result {
+        write!(f, "Store of {} bytes", self.0.len())
+    }
+}

@@ -2,26 +2,8 @@
 
 use crate::limits::MAX_PLAINTEXT;
 use crate::record::{self, Record};
-use crate::{raw, Refusal};
-
-/// Bytes that a frame is bound to without carrying them. Sealing and opening
-/// must be given the same.
-///
-/// A kind of its own, so that it is not exchanged with plaintext or frame:
-///
-/// ```compile_fail,E0308
-/// use sframe::{Metadata, StoreView};
-///
-/// # let (bytes, frame) = ([0; 80], [0x10]);
-/// StoreView::over(&bytes).open(Metadata(b"ward 3"), &frame, &mut [0; 100]);
-/// ```
-#[derive(Clone, Copy, Debug, Default, PartialEq, Eq, Hash)]
-pub struct Metadata<'a>(pub &'a [u8]);
-
-impl Metadata<'_> {
-    /// No metadata: zero bytes of it.
-    pub const NONE: Metadata<'static> = Metadata(&[]);
-}
+use crate::{raw, Metadata, Refusal};
+use std::fmt;
 
 /// A store lent for reading. Opening changes nothing in a store, so any number
 /// of views may open frames at once, from several threads too.
@@ -103,5 +85,12 @@ impl<'a> StoreView<'a> {
     pub fn records(self) -> Result<Vec<Record>, Refusal> {
         self.check()?;
         Ok(record::decode(self.0))
+    }
+}
+
+/// Shows the length alone, since the bytes hold keys.
+impl fmt::Debug for StoreView<'_> {
+    fn fmt(&self, f: &mut fmt::Formatter) -> fmt::Result {
+        write!(f, "StoreView of {} bytes", self.0.len())
     }
 }

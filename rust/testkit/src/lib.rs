@@ -1,13 +1,15 @@
 //! What the tests share: hex, the tables of published vectors, a seeded
-//! generator of inputs, and checks on lent rooms.
+//! generator of inputs, combinations of choices, and checks on lent rooms.
 
 #![forbid(unsafe_code)]
 
+mod combinations;
 mod generator;
 mod hex;
 mod room;
 mod vectors;
 
+pub use combinations::combinations;
 pub use generator::Generator;
 pub use hex::{hex, number};
 pub use room::{check_filled, check_output, check_refused, PATTERN};

@@ -1,6 +1,7 @@
 //! What lists of calls are made of.
 
 mod given;
+mod neighbours;
 mod stores;
 mod tally;
 mod terminal;

@@ -22,12 +22,12 @@ const RESTARTS: [(Unsynced, Unsynced); 4] = [
 
 /// A folder with the inputs; stores are on a [`MemoryDisk`], only their locks
 /// are here.
-struct Bench {
+struct Setup {
     folder: PathBuf,
     disk: MemoryDisk,
 }
 
-impl Bench {
+impl Setup {
     /// A store that sends under [`KID`].
     fn new(name: &str) -> Self {
         let name = format!("sframe-kills-{}-{name}", std::process::id());
@@ -36,15 +36,15 @@ impl Bench {
         fs::write(folder.join("key"), [7; 16]).unwrap();
         fs::write(folder.join("picture"), b"a picture").unwrap();
 
-        let mut bench = Bench {
+        let mut setup = Setup {
             folder,
             disk: MemoryDisk::default(),
         };
-        let mut disk = bench.disk.clone();
-        bench.run(&mut disk, bench.make()).unwrap();
-        bench.run(&mut disk, bench.add()).unwrap();
-        bench.disk = disk;
-        bench
+        let mut disk = setup.disk.clone();
+        setup.run(&mut disk, setup.make()).unwrap();
+        setup.run(&mut disk, setup.add()).unwrap();
+        setup.disk = disk;
+        setup
     }
 
     fn store(&self) -> PathBuf {
@@ -103,7 +103,7 @@ impl Bench {
     }
 }
 
-impl Drop for Bench {
+impl Drop for Setup {
     fn drop(&mut self) {
         let _ = fs::remove_dir_all(&self.folder);
     }
@@ -111,14 +111,14 @@ impl Drop for Bench {
 
 #[test]
 fn sealing_stopped_at_every_step() {
-    let bench = Bench::new("every-step");
+    let setup = Setup::new("every-step");
     let (mut old, mut new) = (0, 0);
     for step in 0.. {
-        let mut disk = bench.disk.stopping_at(step);
-        let given_out = bench.counter(&mut disk);
+        let mut disk = setup.disk.stopping_at(step);
+        let given_out = setup.counter(&mut disk);
         for (names, contents) in RESTARTS {
             let mut disk = disk.restarted(names, contents);
-            let next = bench.next(&disk);
+            let next = setup.next(&disk);
             if let Some(counter) = given_out {
                 assert!(next > counter, "stopped at {step}, {names:?}, {contents:?}");
             }
@@ -128,8 +128,8 @@ fn sealing_stopped_at_every_step() {
                 new += 1;
             }
             // The store goes on from there, whatever a stopped run left behind.
-            assert_eq!(bench.counter(&mut disk), Some(next));
-            assert_eq!(bench.next(&disk), next + 1);
+            assert_eq!(setup.counter(&mut disk), Some(next));
+            assert_eq!(setup.next(&disk), next + 1);
         }
         if given_out.is_some() {
             assert!(step >= 7, "two reads, create, write, sync, rename, sync");
@@ -143,12 +143,12 @@ fn sealing_stopped_at_every_step() {
 /// way.
 #[test]
 fn many_stopped_runs() {
-    let bench = Bench::new("many");
-    let mut disk = bench.disk.clone();
+    let setup = Setup::new("many");
+    let mut disk = setup.disk.clone();
     let mut counters = vec![];
     for run in 0..2_000 {
         let mut stopped = disk.stopping_at(run * 7 % 11);
-        counters.extend(bench.counter(&mut stopped));
+        counters.extend(setup.counter(&mut stopped));
         let (names, contents) = RESTARTS[run / 3 % 4];
         disk = stopped.restarted(names, contents);
     }
@@ -159,19 +159,19 @@ fn many_stopped_runs() {
 /// Adding and making leave the old store or the new one, never a part.
 #[test]
 fn other_changes_stopped_at_every_step() {
-    let bench = Bench::new("others");
+    let setup = Setup::new("others");
     for step in 0..12 {
         let mut disk = MemoryDisk::default().stopping_at(step);
-        let made = bench.run(&mut disk, bench.make()).is_ok();
+        let made = setup.run(&mut disk, setup.make()).is_ok();
         for (names, contents) in RESTARTS {
             let mut disk = disk.restarted(names, contents);
             // Where no store is left, it can be made.
-            if bench.run(&mut disk, bench.add()).is_err() {
+            if setup.run(&mut disk, setup.add()).is_err() {
                 assert!(!made);
-                bench.run(&mut disk, bench.make()).unwrap();
-                bench.run(&mut disk, bench.add()).unwrap();
+                setup.run(&mut disk, setup.make()).unwrap();
+                setup.run(&mut disk, setup.add()).unwrap();
             }
-            assert_eq!(bench.counter(&mut disk), Some(0));
+            assert_eq!(setup.counter(&mut disk), Some(0));
         }
     }
 }

@@ -1,0 +1,39 @@
+//! Frames sealed at one end and opened at the other.
+
+use crate::{hex, BASE_KEY, KID};
+use sframe::{read_header, Metadata, Refusal, Role, Store, Suite, RECORD};
+
+/// Bound to each frame, and sent by other means.
+const METADATA: Metadata = Metadata(b"ward 3, camera 2");
+
+const PICTURES: [&[u8]; 3] = [b"bed 1: asleep", b"bed 2: reading a letter", b""];
+
+pub fn show() -> Result<(), Refusal> {
+    println!("The ward seals pictures under key number 200, the doctor opens them.");
+    for suite in Suite::ALL {
+        println!("\nSuite {}, {suite}:", suite.number());
+        let (mut ward, mut doctor) = ([0; RECORD], [0; RECORD]);
+        let mut ward = Store::make(&mut ward)?;
+        let mut doctor = Store::make(&mut doctor)?;
+        ward.add(Role::Sending, suite, KID, BASE_KEY)?;
+        doctor.add(Role::Receiving, suite, KID, BASE_KEY)?;
+
+        for picture in PICTURES {
+            let frame = ward.seal_to_vec(KID, METADATA, picture)?;
+            let header = read_header(&frame)?;
+            let (start, rest) = frame.split_at(header.length);
+            let (ciphertext, tag) = rest.split_at(rest.len() - suite.nt());
+            println!(
+                "  counter {}  header {}  ciphertext {:<46}  tag {}",
+                header.ctr.0,
+                hex(start),
+                hex(ciphertext),
+                hex(tag)
+            );
+            let opened = doctor.open_to_vec(&frame, METADATA)?;
+            assert_eq!(opened, picture);
+            println!("             opened: \"{}\"", opened.escape_ascii());
+        }
+    }
+    Ok(())
+}

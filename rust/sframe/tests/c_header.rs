@@ -1,0 +1,67 @@
+//! The numbers of `include/sframe.h` are the wrapper's.
+
+use sframe::*;
+use std::collections::HashMap;
+
+/// Every name of the header that stands for a number.
+fn constants() -> HashMap<&'static str, u64> {
+    let header = include_str!("../../../include/sframe.h");
+    let define = |line: &'static str| line.strip_prefix("#define ")?.split_once(' ');
+    let enumerator = |line: &'static str| line.trim_end_matches(',').split_once(" = ");
+    header
+        .lines()
+        .filter_map(|line| define(line).or_else(|| enumerator(line.trim())))
+        .filter_map(|(name, value)| Some((name, value.parse().ok()?)))
+        .filter(|(name, _)| name.starts_with("SFRAME_"))
+        .collect()
+}
+
+#[test]
+fn refusals() {
+    let constants = constants();
+    let names = [
+        "STORE_NOT_SOUND",
+        "SUITE_UNKNOWN",
+        "BASE_KEY_LENGTH",
+        "KID_HELD",
+        "STORE_FULL",
+        "KID_UNKNOWN",
+        "WRONG_ROLE",
+        "COUNTER_SPENT",
+        "TOO_LONG",
+        "HEADER_INVALID",
+        "FRAME_SHORT",
+        "ROOM_SHORT",
+        "TAG_DIFFERS",
+    ];
+    assert_eq!(constants["SFRAME_DONE"], 0);
+    for (name, refusal) in names.into_iter().zip(Refusal::ALL) {
+        let number = constants[&*format!("SFRAME_{name}")];
+        assert_eq!(number, u64::from(refusal.number()), "{name}");
+    }
+}
+
+#[test]
+fn suites() {
+    let constants = constants();
+    for suite in Suite::ALL {
+        assert_eq!(constants[&*format!("SFRAME_{suite}")], suite.number());
+    }
+}
+
+#[test]
+fn sizes() {
+    let constants = constants();
+    let longest_tag = Suite::ALL.map(Suite::nt).into_iter().max();
+    for (name, size) in [
+        ("MAX_KEYS", MAX_RECORDS),
+        ("MIN_BASE_KEY", MIN_BASE_KEY),
+        ("MAX_BASE_KEY", MAX_BASE_KEY),
+        ("MAX_PLAINTEXT", MAX_PLAINTEXT),
+        ("MAX_METADATA", MAX_METADATA),
+        ("MAX_HEADER", MAX_HEADER),
+        ("MAX_TAG", longest_tag.unwrap_or(0)),
+    ] {
+        assert_eq!(constants[&*format!("SFRAME_{name}")], size as u64, "{name}");
+    }
+}

@@ -1,0 +1,174 @@
+//! The typed calls, beside the raw ones that they stand on.
+
+use sframe::{
+    frame_room, raw, Ctr, Kid, Metadata, Refusal, Role, State, Store, StoreView, Suite,
+    MAX_COUNTER, MAX_METADATA, MAX_PLAINTEXT, MAX_RECORDS, RECORD,
+};
+
+const KID: Kid = Kid(200);
+const BASE_KEY: [u8; 16] = [7; 16];
+
+/// A store that sends under [`KID`], and one that receives it.
+fn stores(suite: Suite) -> ([u8; 2 * RECORD], [u8; 2 * RECORD]) {
+    let (mut ward, mut doctor) = ([0; 2 * RECORD], [0; 2 * RECORD]);
+    for (bytes, role) in [(&mut ward, Role::Sending), (&mut doctor, Role::Receiving)] {
+        let mut store = Store::make(bytes).unwrap();
+        store.add(role, suite, KID, &BASE_KEY).unwrap();
+    }
+    (ward, doctor)
+}
+
+#[test]
+fn numbers_and_names_of_refusals() {
+    for (number, refusal) in (1..).zip(Refusal::ALL) {
+        assert_eq!(refusal.number(), number);
+        assert_eq!(Refusal::from_number(number), Some(refusal));
+        let same = |other: &&Refusal| other.to_string() == refusal.to_string();
+        assert_eq!(Refusal::ALL.iter().filter(same).count(), 1);
+    }
+    for number in [0, 14, 256 + 1, u32::MAX] {
+        assert_eq!(Refusal::from_number(number), None);
+    }
+}
+
+#[test]
+fn numbers_of_suites() {
+    for (number, suite) in (1..).zip(Suite::ALL) {
+        assert_eq!(suite.number(), number);
+        assert_eq!(Suite::from_number(number), Some(suite));
+    }
+    for number in [0, 6, 256 + 1, u64::MAX] {
+        assert_eq!(Suite::from_number(number), None);
+    }
+}
+
+/// The forms that answer a vector give what the others write.
+#[test]
+fn both_forms_agree() {
+    let longest = vec![0x5a; MAX_PLAINTEXT];
+    for suite in Suite::ALL {
+        let (mut ward, doctor) = stores(suite);
+        let mut copy = ward;
+        for plaintext in [&b""[..], b"a picture", &longest] {
+            for metadata in [Metadata::NONE, Metadata(b"ward 3")] {
+                let mut room = vec![0; frame_room(suite, plaintext.len())];
+                let mut store = Store::over(&mut ward);
+                let length = store.seal(KID, metadata, plaintext, &mut room).unwrap();
+                let frame = Store::over(&mut copy)
+                    .seal_to_vec(KID, metadata, plaintext)
+                    .unwrap();
+                assert_eq!(frame, room[..length]);
+
+                let view = StoreView::over(&doctor);
+                assert_eq!(view.open_to_vec(&frame, metadata).unwrap(), plaintext);
+                let mut room = vec![0; plaintext.len()];
+                assert_eq!(view.open(&frame, metadata, &mut room), Ok(plaintext.len()));
+                assert_eq!(room, plaintext);
+            }
+        }
+        assert_eq!(ward, copy);
+    }
+}
+
+/// However long a plaintext or a frame is, the vector forms refuse it as too
+/// long and not for want of room.
+#[test]
+fn vector_forms_refuse_what_is_too_long() {
+    let long = vec![0x80; 10 * MAX_PLAINTEXT];
+    for suite in Suite::ALL {
+        let (mut ward, doctor) = stores(suite);
+        let mut store = Store::over(&mut ward);
+        for length in [MAX_PLAINTEXT + 1, 9 * MAX_PLAINTEXT] {
+            let answer = store.seal_to_vec(KID, Metadata::NONE, &long[..length]);
+            assert_eq!(answer, Err(Refusal::TooLong));
+            let frame = [&[0x80, 200], &long[..length + suite.nt()]].concat();
+            let answer = StoreView::over(&doctor).open_to_vec(&frame, Metadata::NONE);
+            assert_eq!(answer, Err(Refusal::TooLong));
+        }
+        let metadata = Metadata(&long[..MAX_METADATA + 1]);
+        assert_eq!(store.seal_to_vec(KID, metadata, b""), Err(Refusal::TooLong));
+    }
+}
+
+#[test]
+fn records_of_every_state() {
+    let mut bytes = [0; 4 * RECORD];
+    let mut store = Store::make(&mut bytes).unwrap();
+    assert_eq!(store.records(), Ok(vec![]));
+    store
+        .add(Role::Receiving, Suite::ALL[0], Kid(1), &BASE_KEY)
+        .unwrap();
+    store
+        .add(Role::Sending, Suite::ALL[1], Kid(u64::MAX), &BASE_KEY)
+        .unwrap();
+    store
+        .add(Role::Sending, Suite::ALL[4], Kid(3), &BASE_KEY)
+        .unwrap();
+    for _ in 0..3 {
+        store.seal_to_vec(Kid(3), Metadata::NONE, b"").unwrap();
+    }
+    store.remove(Kid(3)).unwrap();
+    store.remove(Kid(1)).unwrap();
+    store
+        .add(Role::Receiving, Suite::ALL[2], Kid(4), &BASE_KEY)
+        .unwrap();
+    let seen: Vec<_> = store
+        .records()
+        .unwrap()
+        .into_iter()
+        .map(|r| (r.place, r.state, r.suite, r.kid, r.next))
+        .collect();
+    let expected = [
+        (0, State::Receiving, Suite::ALL[2], Kid(4), Ctr(0)),
+        (1, State::Sending, Suite::ALL[1], Kid(u64::MAX), Ctr(0)),
+        (2, State::Retired, Suite::ALL[4], Kid(3), Ctr(3)),
+    ];
+    assert_eq!(seen, expected);
+}
+
+#[test]
+fn only_sound_stores_are_listed() {
+    for length in [
+        0,
+        79,
+        81,
+        RECORD * MAX_RECORDS + 1,
+        RECORD * (MAX_RECORDS + 1),
+    ] {
+        let bytes = vec![0; length];
+        let view = StoreView::over(&bytes);
+        assert_eq!(view.check(), Err(Refusal::StoreNotSound));
+        assert_eq!(view.records(), Err(Refusal::StoreNotSound));
+    }
+    let (mut ward, _) = stores(Suite::ALL[0]);
+    assert_eq!(StoreView::over(&ward).check(), Ok(()));
+    ward[12..20].copy_from_slice(&MAX_COUNTER.to_be_bytes());
+    assert_eq!(
+        StoreView::over(&ward).records().unwrap()[0].next,
+        Ctr(MAX_COUNTER)
+    );
+    ward[19] = 1;
+    assert_eq!(StoreView::over(&ward).check(), Err(Refusal::StoreNotSound));
+}
+
+/// Debug output goes to logs, where no key belongs.
+#[test]
+fn debug_shows_no_key() {
+    let (mut ward, _) = stores(Suite::ALL[0]);
+    assert_eq!(
+        format!("{:?}", StoreView::over(&ward)),
+        "StoreView of 160 bytes"
+    );
+    assert_eq!(
+        format!("{:?}", Store::over(&mut ward)),
+        "Store of 160 bytes"
+    );
+}
+
+#[test]
+fn a_suite_that_does_not_exist_is_refused_by_number() {
+    let mut bytes = [0; RECORD];
+    assert_eq!(raw::make(&mut bytes), 0);
+    let number = raw::add_sending(&mut bytes, 1, 6, &BASE_KEY);
+    assert_eq!(Refusal::from_number(number), Some(Refusal::NoSuchSuite));
+}

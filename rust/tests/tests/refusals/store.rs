@@ -1,0 +1,130 @@
+//! Add, Remove and Seal.
+
+use super::held::{make_unsound, store, Held, HELD, KID};
+use super::seen::Seen;
+use comparison::number::*;
+use comparison::{retire, with_key, Call, Key, ANY_KEY};
+use reference::suites::SUITES;
+use sframe::{Role, MAX_METADATA, MAX_PLAINTEXT};
+use testkit::combinations;
+
+const ADD: &[u32] = &[
+    STORE_NOT_SOUND,
+    NO_SUCH_SUITE,
+    BASE_KEY_LENGTH,
+    KID_HELD,
+    STORE_FULL,
+];
+const REMOVE: &[u32] = &[STORE_NOT_SOUND, KID_UNKNOWN, WRONG_ROLE];
+const SEAL: &[u32] = &[
+    STORE_NOT_SOUND,
+    KID_UNKNOWN,
+    WRONG_ROLE,
+    COUNTER_SPENT,
+    TOO_LONG,
+    ROOM_SHORT,
+];
+
+#[test]
+fn add() {
+    let mut seen = Seen::new(ADD);
+    for [suite, held, unsound, full] in combinations([5, 6, 2, 2]) {
+        let (suite, held) = (SUITES[suite], HELD[held]);
+        let (unsound, full) = (unsound == 1, full == 1);
+        let mut store = match (held, full) {
+            (_, false) => store(suite, held, 2),
+            (Held::Not, true) => {
+                let store = store(suite, held, 2);
+                let store = with_key(&store, Role::Receiving, &Key::any(suite, KID + 1));
+                retire(&store, &Key::any(suite, KID + 2))
+            }
+            (_, true) => store(suite, held, 1),
+        };
+        if unsound {
+            make_unsound(&mut store);
+        }
+        for [number, base_key, role] in combinations([4, 4, 2]) {
+            let number = [suite.number(), 0, 6, 256 + suite.number()][number];
+            let base_key = [&ANY_KEY[..], &ANY_KEY[..15], &[7; 65], &[]][base_key];
+            let call = Call::Add {
+                role: [Role::Sending, Role::Receiving][role],
+                suite: number,
+                kid: KID,
+                base_key,
+            };
+            let causes = [
+                (STORE_NOT_SOUND, unsound),
+                (NO_SUCH_SUITE, number != suite.number()),
+                (BASE_KEY_LENGTH, base_key != ANY_KEY),
+                (KID_HELD, held != Held::Not),
+                (STORE_FULL, full),
+            ];
+            seen.check(&store, call, causes);
+        }
+    }
+    seen.finish(&[]);
+}
+
+#[test]
+fn remove() {
+    let mut seen = Seen::new(REMOVE);
+    for [suite, held, unsound] in combinations([5, 6, 2]) {
+        let (held, unsound) = (HELD[held], unsound == 1);
+        let mut store = store(SUITES[suite], held, 2);
+        if unsound {
+            make_unsound(&mut store);
+        }
+        let causes = [
+            (STORE_NOT_SOUND, unsound),
+            (KID_UNKNOWN, held == Held::Not),
+            (
+                WRONG_ROLE,
+                matches!(held, Held::Retired | Held::RetiredSpent),
+            ),
+        ];
+        seen.check(&store, Call::Remove { kid: KID }, causes);
+    }
+    seen.finish(&[(KID_UNKNOWN, WRONG_ROLE)]);
+}
+
+#[test]
+fn seal() {
+    let mut seen = Seen::new(SEAL);
+    let long = vec![0x5a; MAX_PLAINTEXT + 1];
+    for [suite, held, unsound] in combinations([5, 6, 2]) {
+        let (suite, held, unsound) = (SUITES[suite], HELD[held], unsound == 1);
+        let mut store = store(suite, held, 2);
+        if unsound {
+            make_unsound(&mut store);
+        }
+        for [plaintext, metadata, room] in combinations([3, 2, 3]) {
+            let plaintext = [&long[..0], &long[..9], &long][plaintext];
+            let metadata = [&long[..4], &long[..MAX_METADATA + 1]][metadata];
+            // The header of a first frame under this key number has two bytes.
+            let enough = 2 + plaintext.len() + suite.nt();
+            let room = [enough, enough - 1, 0][room];
+            let call = Call::Seal {
+                kid: KID,
+                metadata,
+                plaintext,
+                room,
+            };
+            let wrong = matches!(held, Held::Receiving | Held::Retired | Held::RetiredSpent);
+            let too_long = plaintext.len() > MAX_PLAINTEXT || metadata.len() > MAX_METADATA;
+            let causes = [
+                (STORE_NOT_SOUND, unsound),
+                (KID_UNKNOWN, held == Held::Not),
+                (WRONG_ROLE, wrong),
+                (
+                    COUNTER_SPENT,
+                    matches!(held, Held::Spent | Held::RetiredSpent),
+                ),
+                (TOO_LONG, too_long),
+                (ROOM_SHORT, room < enough),
+            ];
+            seen.check(&store, call, causes);
+        }
+    }
+    // An unknown key number has no record whose role or counter could be wrong.
+    seen.finish(&[(KID_UNKNOWN, WRONG_ROLE), (KID_UNKNOWN, COUNTER_SPENT)]);
+}
