@@ -6,12 +6,13 @@ ghost use mathlib.Core.List.{[], _++_};
 ghost use Prim.Native.Nat.{_+_, _-_, _≤_, _<_};
 ghost use lib.ListN.{length, take, drop};
 ghost use Rattle.header.specs.declared.Reading.the-variants.{Header};
-ghost use Rattle.store.specs.Record.{decode, obeys};
+ghost use Rattle.store.specs.Record.{recordSize, saltAt, keyAt, decode, obeys};
 ghost use Rattle.store.specs.Table.{isEmpty};
-ghost use Rattle.suites.specs.Suites.{Nk, Nt};
+ghost use Rattle.suites.specs.Suites.{Nk, Nn, Nt};
 ghost use Rattle.suites.specs.Derivation.{nonce};
 ghost use Rattle.suites.specs.Aead.{decrypt, isPlain, roomAfter};
-ghost use Rattle.sframe.specs.Calls.{openAt, opening};
+ghost use Rattle.sframe.specs.Calls.{maxPlaintext, maxMetadata, openAt, opening};
+ghost use Rattle.sframe.specs.Frame.{maxHeader};
 ghost use Rattle.sframe.specs.Opening.{roomFor};
 ghost use Rattle.sframe.specs.Sframe.{sframe};
 use crate::Answer;
@@ -53,10 +54,10 @@ fn decrypt_with(
     frame: &[u8],
     room: &mut [u8],
 ) -> bool
-    requires { ⌜ (length (now row) ≡ 80) × (n ≤ 17) × (n + Nt suite ≤ length (now frame)) ⌝ }
-    requires { ⌜ (length (now metadata) ≤ 1024) × (length (now frame) - n - Nt suite ≤ 32768) × (length (now frame) - n - Nt suite ≤ length (now room)) ⌝ }
-    ensures { λ r. ⌜ r ≡ isPlain (decrypt suite (take (Nk suite) (drop 32 (now (row .entry)))) (nonce (take 12 (drop 20 (now (row .entry)))) (ctr .0)) (take n (now (frame .entry)) ++ now (metadata .entry)) (drop n (now (frame .entry)))) ⌝ }
-    ensures { λ _. ⌜ now (room .exit) ≡ roomAfter (decrypt suite (take (Nk suite) (drop 32 (now (row .entry)))) (nonce (take 12 (drop 20 (now (row .entry)))) (ctr .0)) (take n (now (frame .entry)) ++ now (metadata .entry)) (drop n (now (frame .entry)))) (now (room .entry)) ⌝ }
+    requires { ⌜ (length (now row) ≡ recordSize) × (n ≤ maxHeader) × (n + Nt suite ≤ length (now frame)) ⌝ }
+    requires { ⌜ (length (now metadata) ≤ maxMetadata) × (length (now frame) - n - Nt suite ≤ maxPlaintext) × (length (now frame) - n - Nt suite ≤ length (now room)) ⌝ }
+    ensures { λ r. ⌜ r ≡ isPlain (decrypt suite (take (Nk suite) (drop keyAt (now (row .entry)))) (nonce (take Nn (drop saltAt (now (row .entry)))) (ctr .0)) (take n (now (frame .entry)) ++ now (metadata .entry)) (drop n (now (frame .entry)))) ⌝ }
+    ensures { λ _. ⌜ now (room .exit) ≡ roomAfter (decrypt suite (take (Nk suite) (drop keyAt (now (row .entry)))) (nonce (take Nn (drop saltAt (now (row .entry)))) (ctr .0)) (take n (now (frame .entry)) ++ now (metadata .entry)) (drop n (now (frame .entry)))) (now (room .entry)) ⌝ }
 {
     let nonce = suites::derivation::nonce_of(&row[SALT..KEY], ctr);
     let end = KEY + suite.key_size();
@@ -91,7 +92,7 @@ fn open_with(
     frame: &[u8],
     room: &mut [u8],
 ) -> Answer
-    requires { ⌜ (length (now row) ≡ 80) × (obeys (now row) ≡ true) × (isEmpty (decode (now row)) ≡ false) × (n ≤ 17) × (n ≤ length (now frame)) ⌝ }
+    requires { ⌜ (length (now row) ≡ recordSize) × (obeys (now row) ≡ true) × (isEmpty (decode (now row)) ≡ false) × (n ≤ maxHeader) × (n ≤ length (now frame)) ⌝ }
     ensures { λ r. ⌜ (r .number ≡ openAt sframe true (Header kid ctr n) (decode (now (row .entry))) [] (now (metadata .entry)) (now (frame .entry)) (now (room .entry)) .number) × (r .length ≡ openAt sframe true (Header kid ctr n) (decode (now (row .entry))) [] (now (metadata .entry)) (now (frame .entry)) (now (room .entry)) .written) ⌝ }
     ensures { λ _. ⌜ now (room .exit) ≡ openAt sframe true (Header kid ctr n) (decode (now (row .entry))) [] (now (metadata .entry)) (now (frame .entry)) (now (room .entry)) .room ⌝ }
 {

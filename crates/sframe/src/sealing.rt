@@ -30,14 +30,15 @@ ghost use lib.ListN.{length, getD, take, drop};
 ghost use Rattle.octets.specs.Octets.{number};
 ghost use Rattle.header.specs.Header.{header};
 ghost use Rattle.store.specs.Answers.{first};
-ghost use Rattle.store.specs.Record.{decode, obeys};
+ghost use Rattle.store.specs.Record.{recordSize, suiteAt, counterAt, saltAt, keyAt, decode, obeys};
 ghost use Rattle.store.specs.Suites.{isSuite};
 ghost use Rattle.store.specs.Table.{isEmpty};
-ghost use Rattle.suites.specs.Suites.{suiteOf, Nt, Nk};
+ghost use Rattle.suites.specs.Suites.{suiteOf, Nk, Nn, Nt};
 ghost use Rattle.suites.specs.declared.sizes.Found.the-variants.{Known};
 ghost use Rattle.suites.specs.Derivation.{nonce};
 ghost use Rattle.suites.specs.Aead.{encrypt};
-ghost use Rattle.sframe.specs.Calls.{tooLong, sealCauses, nextFrame, seal};
+ghost use Rattle.sframe.specs.Calls.{maxPlaintext, maxMetadata, tooLong, sealCauses, nextFrame, seal};
+ghost use Rattle.sframe.specs.Frame.{maxHeader};
 ghost use Rattle.sframe.specs.Sframe.{sframe};
 
 // The longest header.
@@ -55,8 +56,8 @@ pub fn too_long(plaintext: usize, metadata: usize) -> bool
 
 // The suite of a record's bytes.
 pub fn suite_in(row: &[u8]) -> Suite
-    requires { ⌜ (length (now row) ≡ 80) × (isSuite (getD (now row) 1 0) ≡ true) ⌝ }
-    ensures { λ r. ⌜ suiteOf (getD (now (row .entry)) 1 0) ≡ Known r ⌝ }
+    requires { ⌜ (length (now row) ≡ recordSize) × (isSuite (getD (now row) suiteAt 0) ≡ true) ⌝ }
+    ensures { λ r. ⌜ suiteOf (getD (now (row .entry)) suiteAt 0) ≡ Known r ⌝ }
 {
     let Found::Known(suite) = suites::sizes::find(row[SUITE] as u64) else {
         return Suite::Ctr80;
@@ -66,9 +67,9 @@ pub fn suite_in(row: &[u8]) -> Suite
 
 // Writes the header of a record's next frame to the front of head.
 fn write_next(row: &[u8], kid: u64, head: &mut [u8]) -> usize
-    requires { ⌜ (length (now row) ≡ 80) × (17 ≤ length (now head)) ⌝ }
-    ensures { λ r. ⌜ (r ≡ length (header kid (number 8 (drop 12 (now (row .entry)))))) × (r ≤ 17) ⌝ }
-    ensures { λ r. ⌜ now (head .exit) ≡ header kid (number 8 (drop 12 (now (row .entry)))) ++ drop r (now (head .entry)) ⌝ }
+    requires { ⌜ (length (now row) ≡ recordSize) × (maxHeader ≤ length (now head)) ⌝ }
+    ensures { λ r. ⌜ (r ≡ length (header kid (number 8 (drop counterAt (now (row .entry)))))) × (r ≤ maxHeader) ⌝ }
+    ensures { λ r. ⌜ now (head .exit) ≡ header kid (number 8 (drop counterAt (now (row .entry)))) ++ drop r (now (head .entry)) ⌝ }
 {
     let counter = octets::read_be64(&row[COUNTER..]);
     let Written::Length(n) = header::write_header(Kid(kid), Ctr(counter), head) else {
@@ -79,7 +80,7 @@ fn write_next(row: &[u8], kid: u64, head: &mut [u8]) -> usize
 
 // The number of the first cause for which a held record refuses to seal; 0 where there is none.
 fn judge(row: &[u8], kid: Kid, metadata: &[u8], plaintext: &[u8], room: &[u8]) -> u32
-    requires { ⌜ (length (now row) ≡ 80) × (obeys (now row) ≡ true) × (isEmpty (decode (now row)) ≡ false) ⌝ }
+    requires { ⌜ (length (now row) ≡ recordSize) × (obeys (now row) ≡ true) × (isEmpty (decode (now row)) ≡ false) ⌝ }
     ensures { λ r. ⌜ r ≡ first (sealCauses true (decode (now (row .entry))) (kid .0) (now (metadata .entry)) (now (plaintext .entry)) (now (room .entry))) ⌝ }
 {
     if row[0] != SENDING {
@@ -109,10 +110,10 @@ fn encrypt_next(
     plaintext: &[u8],
     out: &mut [u8],
 )
-    requires { ⌜ length (now row) ≡ 80 ⌝ }
-    requires { ⌜ (length (now head) ≤ 17) × (length (now metadata) ≤ 1024) × (length (now plaintext) ≤ 32768) ⌝ }
+    requires { ⌜ length (now row) ≡ recordSize ⌝ }
+    requires { ⌜ (length (now head) ≤ maxHeader) × (length (now metadata) ≤ maxMetadata) × (length (now plaintext) ≤ maxPlaintext) ⌝ }
     requires { ⌜ length (now out) ≡ length (now plaintext) + Nt suite ⌝ }
-    ensures { λ _. ⌜ now (out .exit) ≡ encrypt suite (take (Nk suite) (drop 32 (now (row .entry)))) (nonce (take 12 (drop 20 (now (row .entry)))) (number 8 (drop 12 (now (row .entry))))) (now (head .entry) ++ now (metadata .entry)) (now (plaintext .entry)) ⌝ }
+    ensures { λ _. ⌜ now (out .exit) ≡ encrypt suite (take (Nk suite) (drop keyAt (now (row .entry)))) (nonce (take Nn (drop saltAt (now (row .entry)))) (number 8 (drop counterAt (now (row .entry))))) (now (head .entry) ++ now (metadata .entry)) (now (plaintext .entry)) ⌝ }
 {
     let counter = octets::read_be64(&row[COUNTER..]);
     let nonce = suites::derivation::nonce_of(&row[SALT..KEY], Ctr(counter));
@@ -130,7 +131,7 @@ fn encrypt_next(
 
 // Writes a record's next frame to the front of the room, where nothing is against it.
 fn write_frame(row: &[u8], kid: Kid, metadata: &[u8], plaintext: &[u8], room: &mut [u8]) -> usize
-    requires { ⌜ (length (now row) ≡ 80) × (obeys (now row) ≡ true) ⌝ }
+    requires { ⌜ (length (now row) ≡ recordSize) × (obeys (now row) ≡ true) ⌝ }
     requires { ⌜ first (sealCauses true (decode (now row)) (kid .0) (now metadata) (now plaintext) (now room)) ≡ 0 ⌝ }
     ensures { λ r. ⌜ r ≡ length (nextFrame sframe (decode (now (row .entry))) (kid .0) (now (metadata .entry)) (now (plaintext .entry))) ⌝ }
     ensures { λ r. ⌜ now (room .exit) ≡ nextFrame sframe (decode (now (row .entry))) (kid .0) (now (metadata .entry)) (now (plaintext .entry)) ++ drop r (now (room .entry)) ⌝ }

@@ -7,7 +7,7 @@ use lib.Dec.{leb, eqb}
 use lib.ListN.{length, getD, take, drop, replicate}
 use Rattle.octets.specs.Octets.{number, both}
 use Rattle.header.specs.Header.{pick}
-use Rattle.store.specs.Record.{ceiling, sendingMark, receivingMark, retiredMark, row}
+use Rattle.store.specs.Record.{suiteAt, reservedAt, counterAt, saltAt, keyAt, ceiling, sendingMark, receivingMark, retiredMark, row}
 use Rattle.store.specs.Suites.{isSuite, keySize}
 
 -- Byte 0 of a non-empty record.
@@ -20,11 +20,12 @@ counterLimit mark = pick (eqb mark receivingMark) 0 ceiling
 
 -- Where the zeros begin that end a record, by byte 0 and suite.
 unfoldable pub zerosFrom : ℕ → ℕ → ℕ
-zerosFrom mark suite = pick (eqb mark retiredMark) 20 (32 + keySize suite)
+zerosFrom mark suite = pick (eqb mark retiredMark) saltAt (keyAt + keySize suite)
 
 -- The suite is one, bytes 2 and 3 are zero, the next counter is not above its limit.
 unfoldable pub fieldsFit : List ℕ → Bool
-fieldsFit l = both (isSuite (getD l 1 0)) (both (eqb (getD l 2 0) 0) (both (eqb (getD l 3 0) 0) (leb (number 8 (drop 12 l)) (counterLimit (getD l 0 0)))))
+fieldsFit l =
+    both (isSuite (getD l suiteAt 0)) (both (eqb (getD l reservedAt 0) 0) (both (eqb (getD l (reservedAt + 1) 0) 0) (leb (number 8 (drop counterAt l)) (counterLimit (getD l 0 0)))))
 
 -- A new record's bytes: its counter is 0.
 abbrev pub newRow : ℕ → ℕ → ℕ → List ℕ → List ℕ → List ℕ
@@ -32,4 +33,4 @@ newRow mark suite kid salt key = row mark suite kid 0 salt key
 
 -- A sending record's bytes once it is retired: byte 0, then what stood before the salt, then zeros.
 unfoldable pub retiredRow : List ℕ → List ℕ
-retiredRow l = (retiredMark ∷ drop 1 (take 20 l)) ++ replicate (length l - 20) 0
+retiredRow l = (retiredMark ∷ drop 1 (take saltAt l)) ++ replicate (length l - saltAt) 0

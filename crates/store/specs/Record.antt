@@ -14,6 +14,25 @@ use Rattle.store.specs.Suites.{isSuite, keySize, saltSize}
 abbrev pub recordSize : ℕ
 recordSize = 80
 
+-- where its fields stand: the suite, the two reserved bytes, the KID, the next counter, the salt and the key
+abbrev pub suiteAt : ℕ
+suiteAt = 1
+
+abbrev pub reservedAt : ℕ
+reservedAt = 2
+
+abbrev pub kidAt : ℕ
+kidAt = 4
+
+abbrev pub counterAt : ℕ
+counterAt = 12
+
+abbrev pub saltAt : ℕ
+saltAt = 20
+
+abbrev pub keyAt : ℕ
+keyAt = 32
+
 -- what a record has for a key, which is the longest Nk
 abbrev pub keyRoom : ℕ
 keyRoom = 48
@@ -78,11 +97,11 @@ encode (retired r) = row retiredMark (r .suite) (r .kid) (r .counter) (replicate
 unfoldable pub decode : List ℕ → KeyRecord
 decode l =
     let mark = getD l 0 0 in
-    let suite = getD l 1 0 in
-    let kid = number 8 (drop 4 l) in
-    let counter = number 8 (drop 12 l) in
-    let salt = take saltSize (drop 20 l) in
-    let key = take (keySize suite) (drop 32 l) in
+    let suite = getD l suiteAt 0 in
+    let kid = number 8 (drop kidAt l) in
+    let counter = number 8 (drop counterAt l) in
+    let salt = take saltSize (drop saltAt l) in
+    let key = take (keySize suite) (drop keyAt l) in
     pick (eqb mark sendingMark) (sending (record { suite = suite; kid = kid; counter = counter; salt = salt; key = key }))
     (pick (eqb mark receivingMark) (receiving (record { suite = suite; kid = kid; salt = salt; key = key }))
     (pick (eqb mark retiredMark) (retired (record { suite = suite; kid = kid; counter = counter })) empty))

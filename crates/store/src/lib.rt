@@ -2,14 +2,14 @@
 use header::Kid;
 ghost use mathlib.Core.Path.{_≡_};
 ghost use mathlib.Core.List.{[]};
-ghost use Prim.Native.Nat.{_+_, _/_, _%_, _^_, _≤_, _<_};
+ghost use Prim.Native.Nat.{_+_, _/_, _%_, _≤_, _<_};
 ghost use lib.ListN.{length, drop, replicate};
 ghost use Rattle.octets.specs.Octets.{number, bytes, pasted, same};
 ghost use Rattle.store.specs.Calls.{make, remove};
 ghost use Rattle.store.specs.Judging.{holdingMark, counterLimit, zerosFrom, fieldsFit, newRow, retiredRow};
-ghost use Rattle.store.specs.Record.{decode, obeys};
+ghost use Rattle.store.specs.Record.{recordSize, counterAt, keyRoom, ceiling, decode, obeys};
 ghost use Rattle.store.specs.Store.{lengthRight, decodeAll, allObey, sound};
-ghost use Rattle.store.specs.Suites.{isSuite, keySize};
+ghost use Rattle.store.specs.Suites.{isSuite, keySize, saltSize};
 ghost use Rattle.store.specs.Table.{holds, alone, apart, FoundIn, FreeIn};
 
 pub const RECORD_SIZE: usize = 80;
@@ -74,7 +74,7 @@ pub fn is_suite(n: u8) -> bool
 
 // Nk of a suite; 0 where there is none.
 pub fn key_size(n: u8) -> usize
-    ensures { λ r. ⌜ (r ≡ keySize n) × (r ≤ 48) ⌝ }
+    ensures { λ r. ⌜ (r ≡ keySize n) × (r ≤ keyRoom) ⌝ }
 {
     if n == 4 {
         return 16;
@@ -120,7 +120,7 @@ fn counter_limit(mark: u8) -> u64
 
 // Where the zeros begin that end a record with that byte 0 and that suite.
 fn zeros_from(mark: u8, suite: u8) -> usize
-    ensures { λ r. ⌜ (r ≡ zerosFrom mark suite) × (r ≤ 80) ⌝ }
+    ensures { λ r. ⌜ (r ≡ zerosFrom mark suite) × (r ≤ recordSize) ⌝ }
 {
     if mark == RETIRED {
         return SALT;
@@ -130,7 +130,7 @@ fn zeros_from(mark: u8, suite: u8) -> usize
 
 // Whether the fields of a non-empty record's bytes are in range.
 fn fields_fit(row: &[u8]) -> bool
-    requires { ⌜ length (now row) ≡ 80 ⌝ }
+    requires { ⌜ length (now row) ≡ recordSize ⌝ }
     ensures { λ r. ⌜ r ≡ fieldsFit (now (row .entry)) ⌝ }
 {
     if !is_suite(row[SUITE]) {
@@ -147,7 +147,7 @@ fn fields_fit(row: &[u8]) -> bool
 
 // Whether a record's bytes obey their row.
 fn obeys_row(row: &[u8]) -> bool
-    requires { ⌜ length (now row) ≡ 80 ⌝ }
+    requires { ⌜ length (now row) ≡ recordSize ⌝ }
     ensures { λ r. ⌜ r ≡ obeys (now (row .entry)) ⌝ }
 {
     if row[0] == EMPTY {
@@ -178,8 +178,8 @@ fn length_right(n: usize) -> bool
 
 // Whether the bytes of every record obey their row.
 fn rows_obey(store: &[u8]) -> bool
-    requires { ⌜ length (now store) % 80 ≡ 0 ⌝ }
-    ensures { λ r. ⌜ r ≡ allObey (length (now (store .entry)) / 80) (now (store .entry)) ⌝ }
+    requires { ⌜ length (now store) % recordSize ≡ 0 ⌝ }
+    ensures { λ r. ⌜ r ≡ allObey (length (now (store .entry)) / recordSize) (now (store .entry)) ⌝ }
 {
     let mut at = 0;
     while at < store.len() {
@@ -194,7 +194,7 @@ fn rows_obey(store: &[u8]) -> bool
 
 // Whether a record's bytes are those of a non-empty record with that KID.
 fn holds_kid(row: &[u8], kid: Kid) -> bool
-    requires { ⌜ length (now row) ≡ 80 ⌝ }
+    requires { ⌜ length (now row) ≡ recordSize ⌝ }
     ensures { λ r. ⌜ r ≡ holds (kid .0) (decode (now (row .entry))) ⌝ }
 {
     if !is_held(row[0]) {
@@ -205,8 +205,8 @@ fn holds_kid(row: &[u8], kid: Kid) -> bool
 
 // Where the record stands that holds a KID.
 pub fn find(store: &[u8], kid: Kid) -> Place
-    requires { ⌜ length (now store) % 80 ≡ 0 ⌝ }
-    ensures { λ r. ⌜ FoundIn r (kid .0) (decodeAll (length (now (store .entry)) / 80) (now (store .entry))) ⌝ }
+    requires { ⌜ length (now store) % recordSize ≡ 0 ⌝ }
+    ensures { λ r. ⌜ FoundIn r (kid .0) (decodeAll (length (now (store .entry)) / recordSize) (now (store .entry))) ⌝ }
 {
     let mut at = 0;
     while at < store.len() {
@@ -221,8 +221,8 @@ pub fn find(store: &[u8], kid: Kid) -> Place
 
 // Where the lowest-numbered empty record stands.
 pub fn find_free(store: &[u8]) -> Place
-    requires { ⌜ length (now store) % 80 ≡ 0 ⌝ }
-    ensures { λ r. ⌜ FreeIn r (decodeAll (length (now (store .entry)) / 80) (now (store .entry))) ⌝ }
+    requires { ⌜ length (now store) % recordSize ≡ 0 ⌝ }
+    ensures { λ r. ⌜ FreeIn r (decodeAll (length (now (store .entry)) / recordSize) (now (store .entry))) ⌝ }
 {
     let mut at = 0;
     while at < store.len() {
@@ -236,8 +236,8 @@ pub fn find_free(store: &[u8]) -> Place
 
 // Whether no record of rest shares the KID of a record.
 fn alone_in(row: &[u8], rest: &[u8]) -> bool
-    requires { ⌜ (length (now row) ≡ 80) × (length (now rest) % 80 ≡ 0) ⌝ }
-    ensures { λ r. ⌜ r ≡ alone (decode (now (row .entry))) (decodeAll (length (now (rest .entry)) / 80) (now (rest .entry))) ⌝ }
+    requires { ⌜ (length (now row) ≡ recordSize) × (length (now rest) % recordSize ≡ 0) ⌝ }
+    ensures { λ r. ⌜ r ≡ alone (decode (now (row .entry))) (decodeAll (length (now (rest .entry)) / recordSize) (now (rest .entry))) ⌝ }
 {
     if !is_held(row[0]) {
         return true;
@@ -251,8 +251,8 @@ fn alone_in(row: &[u8], rest: &[u8]) -> bool
 
 // Whether no two non-empty records share a KID.
 fn kids_apart(store: &[u8]) -> bool
-    requires { ⌜ length (now store) % 80 ≡ 0 ⌝ }
-    ensures { λ r. ⌜ r ≡ apart (decodeAll (length (now (store .entry)) / 80) (now (store .entry))) ⌝ }
+    requires { ⌜ length (now store) % recordSize ≡ 0 ⌝ }
+    ensures { λ r. ⌜ r ≡ apart (decodeAll (length (now (store .entry)) / recordSize) (now (store .entry))) ⌝ }
 {
     let mut at = 0;
     while at < store.len() {
@@ -280,8 +280,8 @@ pub fn is_sound(store: &[u8]) -> bool
 
 // Writes a new record over an empty one: byte 0, suite and KID, the counter 0, salt and key still zero.
 pub fn start_row(row: &mut [u8], mark: u8, suite: u8, kid: Kid)
-    requires { ⌜ now row ≡ replicate 80 0 ⌝ }
-    ensures { λ _. ⌜ now (row .exit) ≡ newRow mark suite (kid .0) (replicate 12 0) [] ⌝ }
+    requires { ⌜ now row ≡ replicate recordSize 0 ⌝ }
+    ensures { λ _. ⌜ now (row .exit) ≡ newRow mark suite (kid .0) (replicate saltSize 0) [] ⌝ }
 {
     octets::write_be_at(row, KID, 8, kid.0);
     row[SUITE] = suite;
@@ -290,8 +290,8 @@ pub fn start_row(row: &mut [u8], mark: u8, suite: u8, kid: Kid)
 
 // Takes a record's next counter: writes one more.
 pub fn advance_row(row: &mut [u8])
-    requires { ⌜ (length (now row) ≡ 80) × (number 8 (drop 12 (now row)) < 2 ^ 40) ⌝ }
-    ensures { λ _. ⌜ now (row .exit) ≡ pasted (now (row .entry)) 12 (bytes 8 (number 8 (drop 12 (now (row .entry))) + 1)) ⌝ }
+    requires { ⌜ (length (now row) ≡ recordSize) × (number 8 (drop counterAt (now row)) < ceiling) ⌝ }
+    ensures { λ _. ⌜ now (row .exit) ≡ pasted (now (row .entry)) counterAt (bytes 8 (number 8 (drop counterAt (now (row .entry))) + 1)) ⌝ }
 {
     let counter = octets::read_be64(&row[COUNTER..]);
     octets::write_be_at(row, COUNTER, 8, counter + 1);
@@ -299,7 +299,7 @@ pub fn advance_row(row: &mut [u8])
 
 // The record's bytes once its sending key is removed.
 fn retire_row(row: &mut [u8])
-    requires { ⌜ length (now row) ≡ 80 ⌝ }
+    requires { ⌜ length (now row) ≡ recordSize ⌝ }
     ensures { λ _. ⌜ now (row .exit) ≡ retiredRow (now (row .entry)) ⌝ }
 {
     octets::clear(&mut row[SALT..]);
