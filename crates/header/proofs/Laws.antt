@@ -13,7 +13,7 @@ use lib.Seq.{drop-at, take-add}
 use borrow.Author.Tests.{lt-ltb, le-ltb, le-leb, eq-eqb, ltb-true, ltb-false, leb-true, leb-false, eqb-true, eqb-false}
 use Rattle.octets.specs.Octets.{Octets, number, bytes, both}
 use Rattle.octets.proofs.Laws.{bytes-length, bytes-zero, bytes-number, number-bytes, number-append, number-lt, octets-drop}
-use Rattle.header.specs.Header.{pick, size, flag, code, width, config, header, readBytes, readField, withCounter, readCounter, readHeader}
+use Rattle.header.specs.Header.{pick, size, flag, code, width, config, maxHeader, header, readBytes, readField, withCounter, readCounter, readHeader}
 use Rattle.header.specs.declared.Ctr.{Ctr}
 use Rattle.header.specs.declared.Field.{Field}
 use Rattle.header.specs.declared.Field.the-variants.{Value, Refused}
@@ -239,7 +239,7 @@ unfolding header
 header-size kid ctr = rw (length-append, bytes-length, bytes-length) (omega arith)
 
 -- a header is 1 to 17 bytes long
-pub header-length : (kid ctr : ℕ) → kid < 2 ^ 64 → ctr < 2 ^ 64 → (1 ≤ length (header kid ctr)) × (length (header kid ctr) ≤ 17)
+pub header-length : (kid ctr : ℕ) → kid < 2 ^ 64 → ctr < 2 ^ 64 → (1 ≤ length (header kid ctr)) × (length (header kid ctr) ≤ maxHeader)
 header-length kid ctr hk hc =
     let n = header-size kid ctr in
     let a = field-bits kid hk .width-most in

@@ -8,7 +8,7 @@ use lib.Seq.{drop-drop}
 use borrow.Author.Tests.{le-leb, lt-leb, eq-eqb, ne-eqb}
 use Rattle.octets.specs.Octets.{number, bytes, pasted}
 use Rattle.octets.proofs.Laws.{part-rest, bytes-length, set-pasted, pasted-append, pasted-front}
-use Rattle.header.specs.Header.{size, flag, code, width, config, header, writeHeader, readBytes, readField, withCounter, readCounter, readHeader}
+use Rattle.header.specs.Header.{size, flag, code, width, config, maxHeader, header, writeHeader, readBytes, readField, withCounter, readCounter, readHeader}
 use Rattle.header.specs.declared.Field.{Field}
 use Rattle.header.specs.declared.Field.the-variants.{Value, Refused}
 use Rattle.header.specs.declared.Reading.the-variants.{Header, Invalid}
@@ -25,6 +25,9 @@ config-of kid ctr x y p q = omega arith
 module _ (kid ctr k c : ℕ) (out : List ℕ) (kw : k ≡ width kid) (cw : c ≡ width ctr) where
   whole : length (header kid ctr) ≡ 1 + k + c
   whole = rw (header-size, kw, cw)
+
+  pub header-most : k ≤ 8 → c ≤ 8 → length (header kid ctr) ≤ maxHeader
+  header-most m n = rw whole (omega arith)
 
   pub no-room : length out < 1 + k + c → (NoRoom ≡ writeHeader kid ctr out .answer) × (out ≡ writeHeader kid ctr out .room)
   unfolding writeHeader

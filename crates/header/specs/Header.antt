@@ -40,6 +40,10 @@ width v = pick (ltb v 8) 0 (size v)
 unfoldable pub config : ℕ → ℕ → ℕ
 config kid ctr = flag kid * 128 + code kid * 16 + flag ctr * 8 + code ctr
 
+-- The longest header, in bytes.
+abbrev pub maxHeader : ℕ
+maxHeader = 17
+
 -- The header: the config byte, then the bytes of the KID, then those of the CTR.
 unfoldable pub header : ℕ → ℕ → List ℕ
 header kid ctr = config kid ctr ∷ (bytes (width kid) kid ++ bytes (width ctr) ctr)

@@ -1,10 +1,14 @@
 // The SFrame header of RFC 9605, section 4.3: its writer and its reader.
 ghost use mathlib.Core.Path.{_≡_};
 ghost use Prim.Native.Nat.{_+_, _*_, _≤_, _<_};
-ghost use Rattle.header.specs.Header.{size, flag, code, width, readField, readHeader, writeHeader};
+ghost use lib.ListN.{length};
+ghost use Rattle.header.specs.Header.{size, flag, code, width, maxHeader, header, readField, readHeader, writeHeader};
 
 // A value below this stands in the three bits of its field in the config byte.
 const SMALL: u64 = 8;
+
+// The longest header, in bytes.
+pub const MAX_HEADER: usize = 17;
 
 // A Key ID.
 pub struct Kid(pub u64);
@@ -56,6 +60,7 @@ fn bits_of(v: u64, n: usize) -> u8
 pub fn write_header(kid: Kid, ctr: Ctr, out: &mut [u8]) -> Written
     ensures { λ r. ⌜ r ≡ writeHeader (kid .0) (ctr .0) (now (out .entry)) .answer ⌝ }
     ensures { λ r. ⌜ now (out .exit) ≡ writeHeader (kid .0) (ctr .0) (now (out .entry)) .room ⌝ }
+    ensures { λ r. ⌜ length (header (kid .0) (ctr .0)) ≤ maxHeader ⌝ }
 {
     let k = width_of(kid.0);
     let c = width_of(ctr.0);

@@ -11,11 +11,10 @@ use lib.Seq.{take-at, drop-at, drop-drop}
 use borrow.Author.Tests.{le-leb, lt-leb, ltb-true, ltb-false, lt-ltb, le-ltb, eq-eqb, ne-eqb, eqb-true, eqb-false, not-false}
 use borrow.Rule.Slice.PartMut.{putMid}
 use Rattle.octets.specs.Octets.{Octets, number, bytes, pasted}
-use Rattle.octets.proofs.Laws.{bytes-length, part-rest, number-lt, octets-drop}
-use Rattle.header.specs.Header.{header, writeHeader}
+use Rattle.octets.proofs.Laws.{bytes-length}
+use Rattle.header.specs.Header.{maxHeader, header, writeHeader}
 use Rattle.header.specs.declared.Written.{Written}
 use Rattle.header.specs.declared.Written.the-variants.{Length, NoRoom}
-use Rattle.header.proofs.Laws.{header-length}
 use Rattle.store.specs.Answers.{first, Outcome, settled}
 use Rattle.store.specs.Record.{keyRoom, ceiling, SendingKey, KeyRecord, empty, sending, receiving, retired, sendingMark, receivingMark, retiredMark, row, encode, decode, obeys}
 use Rattle.store.specs.Store.{encodeAll, decodeAll, records, sound}
@@ -82,20 +81,8 @@ tag-told n s nt f e = let m = Suites.Nt-most s in omega arith
 length-is : (a b : ℕ) → Length a ≡ Length b → a ≡ b
 length-is a b e = cc
 
-pub counter-read : (l : List ℕ) (v : ℕ) → v ≡ number 8 (take (length l - 12) (drop 12 l)) → v ≡ number 8 (drop 12 l)
-counter-read l v e = e ∙ ap (number 8) (part-rest 12 l)
-
-pub counter-below : (l : List ℕ) → Octets l → number 8 (drop 12 l) < 2 ^ 64
-counter-below l o = number-lt 8 (drop 12 l) (octets-drop 12 l o)
-
-module _ (l out : List ℕ) (kid v : ℕ) (w : Written) (o : Octets l) (k : kid < 2 ^ 64) (e : v ≡ number 8 (take (length l - 12) (drop 12 l))) (h : 17 ≤ length out)
+module _ (l out : List ℕ) (kid v : ℕ) (w : Written) (e : v ≡ number 8 (drop 12 l)) (h : maxHeader ≤ length out) (most : length (header kid v) ≤ maxHeader)
     (a : w ≡ writeHeader kid v out .answer) where
-  read : v ≡ number 8 (drop 12 l)
-  read = counter-read l v e
-
-  most : length (header kid v) ≤ 17
-  most = header-length kid v k (rw read (counter-below l o)) .1
-
   fits-in : leb (length (header kid v)) (length out) ≡ true
   fits-in = le-leb (length (header kid v)) (length out) (omega (arith, most))
 
@@ -107,12 +94,12 @@ module _ (l out : List ℕ) (kid v : ℕ) (w : Written) (o : Octets l) (k : kid 
       omega arith
 
   pub header-written : (n : ℕ) (x : List ℕ) → w ≡ Length n → x ≡ writeHeader kid v out .room
-      → ((n ≡ length (header kid (number 8 (drop 12 l)))) × (n ≤ 17)) × (x ≡ header kid (number 8 (drop 12 l)) ++ drop n out)
+      → ((n ≡ length (header kid (number 8 (drop 12 l)))) × (n ≤ maxHeader)) × (x ≡ header kid (number 8 (drop 12 l)) ++ drop n out)
   unfolding writeHeader
   header-written n x u b =
       let s : n ≡ length (header kid v) = length-is n (length (header kid v)) (sym u ∙ rw fits-in at a) in
       let q : x ≡ header kid v ++ drop (length (header kid v)) out = rw fits-in at b in
-      ((s ∙ ap (λ (c : ℕ). length (header kid c)) read, omega (arith, most)), q ∙ ap₂ (λ (c i : ℕ). header kid c ++ drop i out) read (sym s))
+      ((s ∙ ap (λ (c : ℕ). length (header kid c)) e, omega (arith, most)), q ∙ ap₂ (λ (c i : ℕ). header kid c ++ drop i out) e (sym s))
 
 -- ---- the causes
 
@@ -150,14 +137,14 @@ module _ (l : List ℕ) (kid : ℕ) (metadata plaintext room : List ℕ) where
     as-sending : first (sealCauses true (decode l) kid metadata plaintext room) ≡ first (sealCauses true (asSending l) kid metadata plaintext room)
     as-sending = ap (λ (x : KeyRecord). first (sealCauses true x kid metadata plaintext room)) (read-sending l m)
 
-    module _ (v : ℕ) (e : v ≡ number 8 (take (length l - 12) (drop 12 l))) where
+    module _ (v : ℕ) (e : v ≡ number 8 (drop 12 l)) where
       pub judged-counter : v ≡ 2 ^ 40 → 8 ≡ first (sealCauses true (decode l) kid metadata plaintext room)
       unfolding sealCauses first
-      judged-counter h = sym (as-sending ∙ rw (eq-eqb (number 8 (drop 12 l)) ceiling (sym (counter-read l v e) ∙ h)))
+      judged-counter h = sym (as-sending ∙ rw (eq-eqb (number 8 (drop 12 l)) ceiling (sym e ∙ h)))
 
       module _ (below : v ≡ 2 ^ 40 → ⊥) where
         unspent : eqb (number 8 (drop 12 l)) ceiling ≡ false
-        unspent = ne-eqb (number 8 (drop 12 l)) ceiling (λ q. below (counter-read l v e ∙ q))
+        unspent = ne-eqb (number 8 (drop 12 l)) ceiling (λ q. below (e ∙ q))
 
         module _ (t : Bool) (long : t ≡ tooLong (length plaintext) (length metadata)) where
           pub judged-long : t ≡ true → 9 ≡ first (sealCauses true (decode l) kid metadata plaintext room)
@@ -215,12 +202,12 @@ sender l kid metadata plaintext room z =
     not-false (isSending (decode l)) (p .1 .1 .0)
 
 -- the key of the suite, and the nonce, as the code takes them from a record's bytes
-pub body-is : (l out h metadata p iv : List ℕ) (s : Suite) (v size : ℕ) → v ≡ number 8 (take (length l - 12) (drop 12 l)) → size ≡ Nk s
+pub body-is : (l out h metadata p iv : List ℕ) (s : Suite) (v size : ℕ) → v ≡ number 8 (drop 12 l) → size ≡ Nk s
     → iv ≡ nonce (take 12 (drop 20 l)) v → out ≡ Aead.encrypt s (take (32 + size - 32) (drop 32 l)) iv (h ++ metadata) p
     → out ≡ Aead.encrypt s (take (Nk s) (drop 32 l)) (nonce (take 12 (drop 20 l)) (number 8 (drop 12 l))) (h ++ metadata) p
 body-is l out h metadata p iv s v size e k i q =
     let z : 32 + size - 32 ≡ Nk s = omega arith in
-    q ∙ ap₂ (λ (j : ℕ) (x : List ℕ). Aead.encrypt s (take j (drop 32 l)) x (h ++ metadata) p) z (i ∙ ap (nonce (take 12 (drop 20 l))) (counter-read l v e))
+    q ∙ ap₂ (λ (j : ℕ) (x : List ℕ). Aead.encrypt s (take j (drop 32 l)) x (h ++ metadata) p) z (i ∙ ap (nonce (take 12 (drop 20 l))) e)
 
 body : Suite → List ℕ → List ℕ → List ℕ → List ℕ → List ℕ
 body s l h metadata p = Aead.encrypt s (take (Nk s) (drop 32 l)) (nonce (take 12 (drop 20 l)) (number 8 (drop 12 l))) (h ++ metadata) p

@@ -5,10 +5,6 @@ use Prim.Native.Nat.{ℕ}
 use Rattle.header.specs.Header.{header}
 use Rattle.store.specs.Cipher.{Cipher}
 
--- the longest header, in bytes
-abbrev pub maxHeader : ℕ
-maxHeader = 17
-
 -- suite, key and salt; KID and counter; metadata and plaintext
 unfoldable pub frame : Cipher → ℕ → List ℕ → List ℕ → ℕ → ℕ → List ℕ → List ℕ → List ℕ
 frame cipher suite key salt kid ctr metadata plaintext =

@@ -5,11 +5,11 @@ use crate::INPUT_TOO_LONG;
 use crate::MAX_METADATA;
 use crate::MAX_PLAINTEXT;
 use crate::ROOM_SHORT;
-use header::Ctr;
+use crate::refused;
 use header::Kid;
+use header::MAX_HEADER;
 use header::Written;
 use store::CEILING;
-use store::COUNTER;
 use store::DONE;
 use store::KEY;
 use store::KID_MISSING;
@@ -28,7 +28,7 @@ ghost use mathlib.Core.List.{_++_};
 ghost use Prim.Native.Nat.{_+_, _≤_};
 ghost use lib.ListN.{length, getD, take, drop};
 ghost use Rattle.octets.specs.Octets.{number};
-ghost use Rattle.header.specs.Header.{header};
+ghost use Rattle.header.specs.Header.{maxHeader, header};
 ghost use Rattle.store.specs.Answers.{first};
 ghost use Rattle.store.specs.Record.{recordSize, suiteAt, counterAt, saltAt, keyAt, decode, obeys};
 ghost use Rattle.store.specs.Suites.{isSuite};
@@ -38,11 +38,7 @@ ghost use Rattle.suites.specs.declared.sizes.Found.the-variants.{Known};
 ghost use Rattle.suites.specs.Derivation.{nonce};
 ghost use Rattle.suites.specs.Aead.{encrypt};
 ghost use Rattle.sframe.specs.Calls.{maxPlaintext, maxMetadata, tooLong, sealCauses, nextFrame, seal};
-ghost use Rattle.sframe.specs.Frame.{maxHeader};
 ghost use Rattle.sframe.specs.Sframe.{sframe};
-
-// The longest header.
-const MAX_HEADER: usize = 17;
 
 // Whether a plaintext of that length, or metadata of that length, is too long.
 pub fn too_long(plaintext: usize, metadata: usize) -> bool
@@ -66,13 +62,13 @@ pub fn suite_in(row: &[u8]) -> Suite
 }
 
 // Writes the header of a record's next frame to the front of head.
-fn write_next(row: &[u8], kid: u64, head: &mut [u8]) -> usize
+fn write_next(row: &[u8], kid: Kid, head: &mut [u8]) -> usize
     requires { ⌜ (length (now row) ≡ recordSize) × (maxHeader ≤ length (now head)) ⌝ }
-    ensures { λ r. ⌜ (r ≡ length (header kid (number 8 (drop counterAt (now (row .entry)))))) × (r ≤ maxHeader) ⌝ }
-    ensures { λ r. ⌜ now (head .exit) ≡ header kid (number 8 (drop counterAt (now (row .entry)))) ++ drop r (now (head .entry)) ⌝ }
+    ensures { λ r. ⌜ (r ≡ length (header (kid .0) (number 8 (drop counterAt (now (row .entry)))))) × (r ≤ maxHeader) ⌝ }
+    ensures { λ r. ⌜ now (head .exit) ≡ header (kid .0) (number 8 (drop counterAt (now (row .entry)))) ++ drop r (now (head .entry)) ⌝ }
 {
-    let counter = octets::read_be64(&row[COUNTER..]);
-    let Written::Length(n) = header::write_header(Kid(kid), Ctr(counter), head) else {
+    let ctr = store::next_counter(row);
+    let Written::Length(n) = header::write_header(kid, ctr, head) else {
         return 0;
     };
     n
@@ -86,14 +82,15 @@ fn judge(row: &[u8], kid: Kid, metadata: &[u8], plaintext: &[u8], room: &[u8]) -
     if row[0] != SENDING {
         return ROLE_REFUSED;
     }
-    if octets::read_be64(&row[COUNTER..]) == CEILING {
+    let ctr = store::next_counter(row);
+    if ctr.0 == CEILING {
         return COUNTER_SPENT;
     }
     if too_long(plaintext.len(), metadata.len()) {
         return INPUT_TOO_LONG;
     }
     let mut head = [0u8; MAX_HEADER];
-    let n = write_next(row, kid.0, &mut head);
+    let n = write_next(row, kid, &mut head);
     let nt = suite_in(row).tag_size();
     if room.len() < n + (plaintext.len() + nt) {
         return ROOM_SHORT;
@@ -115,8 +112,8 @@ fn encrypt_next(
     requires { ⌜ length (now out) ≡ length (now plaintext) + Nt suite ⌝ }
     ensures { λ _. ⌜ now (out .exit) ≡ encrypt suite (take (Nk suite) (drop keyAt (now (row .entry)))) (nonce (take Nn (drop saltAt (now (row .entry)))) (number 8 (drop counterAt (now (row .entry))))) (now (head .entry) ++ now (metadata .entry)) (now (plaintext .entry)) ⌝ }
 {
-    let counter = octets::read_be64(&row[COUNTER..]);
-    let nonce = suites::derivation::nonce_of(&row[SALT..KEY], Ctr(counter));
+    let ctr = store::next_counter(row);
+    let nonce = suites::derivation::nonce_of(&row[SALT..KEY], ctr);
     let end = KEY + suite.key_size();
     suites::aead::encrypt(
         suite,
@@ -138,7 +135,7 @@ fn write_frame(row: &[u8], kid: Kid, metadata: &[u8], plaintext: &[u8], room: &m
 {
     let suite = suite_in(row);
     let mut head = [0u8; MAX_HEADER];
-    let n = write_next(row, kid.0, &mut head);
+    let n = write_next(row, kid, &mut head);
     let end = n + (plaintext.len() + suite.tag_size());
     octets::copy(room, &head[0..n]);
     encrypt_next(
@@ -166,30 +163,21 @@ pub fn seal(
     ensures { λ _. ⌜ now (room .exit) ≡ seal sframe (now (store .entry)) (kid .0) (now (metadata .entry)) (now (plaintext .entry)) (now (room .entry)) .room ⌝ }
 {
     if !store::is_sound(store) {
-        return Answer {
-            number: STORE_INVALID,
-            length: 0,
-        };
+        return refused(STORE_INVALID);
     }
     let Place::At(i) = store::find(store, kid) else {
-        return Answer {
-            number: KID_MISSING,
-            length: 0,
-        };
+        return refused(KID_MISSING);
     };
     let at = i * RECORD_SIZE;
     let end = at + RECORD_SIZE;
     let number = judge(&store[at..end], kid, metadata, plaintext, room);
     if number != DONE {
-        return Answer {
-            number: number,
-            length: 0,
-        };
+        return refused(number);
     }
     let length = write_frame(&store[at..end], kid, metadata, plaintext, room);
     store::advance_row(&mut store[at..end]);
     Answer {
         number: DONE,
-        length: length,
+        length,
     }
 }

@@ -186,5 +186,5 @@ module _ (s : List ℕ) (kid : ℕ) (o : Octets s) (r : Bool) (e : r ≡ sound s
 pub counter-read : (l : List ℕ) (v : ℕ) → v ≡ number 8 (take (length l - 12) (drop 12 l)) → v ≡ number 8 (drop 12 l)
 counter-read l v e = e ∙ ap (number 8) (part-rest 12 l)
 
-pub counter-written : (l x : List ℕ) (v : ℕ) → v ≡ number 8 (take (length l - 12) (drop 12 l)) → x ≡ pasted l 12 (bytes 8 (v + 1)) → x ≡ pasted l 12 (bytes 8 (number 8 (drop 12 l) + 1))
-counter-written l x v e q = q ∙ ap (λ (k : ℕ). pasted l 12 (bytes 8 (k + 1))) (counter-read l v e)
+pub counter-written : (l x : List ℕ) (v : ℕ) → v ≡ number 8 (drop 12 l) → x ≡ pasted l 12 (bytes 8 (v + 1)) → x ≡ pasted l 12 (bytes 8 (number 8 (drop 12 l) + 1))
+counter-written l x v e q = q ∙ ap (λ (k : ℕ). pasted l 12 (bytes 8 (k + 1))) e

@@ -1,4 +1,5 @@
 // The key store: records of 80 bytes in bytes that the caller lends.
+use header::Ctr;
 use header::Kid;
 ghost use mathlib.Core.Path.{_≡_};
 ghost use mathlib.Core.List.{[]};
@@ -288,13 +289,21 @@ pub fn start_row(row: &mut [u8], mark: u8, suite: u8, kid: Kid)
     row[0] = mark;
 }
 
+// The next counter of a record's bytes.
+pub fn next_counter(row: &[u8]) -> Ctr
+    requires { ⌜ length (now row) ≡ recordSize ⌝ }
+    ensures { λ r. ⌜ r .0 ≡ number 8 (drop counterAt (now (row .entry))) ⌝ }
+{
+    Ctr(octets::read_be64(&row[COUNTER..]))
+}
+
 // Takes a record's next counter: writes one more.
 pub fn advance_row(row: &mut [u8])
     requires { ⌜ (length (now row) ≡ recordSize) × (number 8 (drop counterAt (now row)) < ceiling) ⌝ }
     ensures { λ _. ⌜ now (row .exit) ≡ pasted (now (row .entry)) counterAt (bytes 8 (number 8 (drop counterAt (now (row .entry))) + 1)) ⌝ }
 {
-    let counter = octets::read_be64(&row[COUNTER..]);
-    octets::write_be_at(row, COUNTER, 8, counter + 1);
+    let ctr = next_counter(row);
+    octets::write_be_at(row, COUNTER, 8, ctr.0 + 1);
 }
 
 // The record's bytes once its sending key is removed.

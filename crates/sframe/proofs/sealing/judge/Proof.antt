@@ -12,12 +12,12 @@ returns c =
 returns-2 : tie.Need-returns-2
 returns-2 c =
     let a = c .before .before .before .before .before .before .before .before .before .args in
-    judged-counter (a .row .now) _ (a .metadata .now) (a .plaintext .now) (a .room .now) (c .before .before .before .if1 .left) _ (c .before .read-be64 .ensures) (c .if2 .taken)
+    judged-counter (a .row .now) _ (a .metadata .now) (a .plaintext .now) (a .room .now) (c .before .before .before .if1 .left) _ (c .before .before .next-counter .ensures) (c .if2 .taken)
 
 returns-3 : tie.Need-returns-3
 returns-3 c =
     let a = c .before .before .before .before .before .before .before .before .before .before .before .args in
-    judged-long (a .row .now) _ (a .metadata .now) (a .plaintext .now) (a .room .now) (c .before .before .before .before .before .if1 .left) _ (c .before .before .before .read-be64 .ensures) (c .before .before .if2 .left) _ (c .before .too-long .ensures) (c .if3 .taken)
+    judged-long (a .row .now) _ (a .metadata .now) (a .plaintext .now) (a .room .now) (c .before .before .before .before .before .if1 .left) _ (c .before .before .before .before .next-counter .ensures) (c .before .before .if2 .left) _ (c .before .too-long .ensures) (c .if3 .taken)
 
 suite-in-requires : tie.Need-suite-in-requires
 suite-in-requires c κs =
@@ -34,13 +34,13 @@ returns-4 : tie.Need-returns-4
 returns-4 c =
     let a = c .before .before .before .before .before .before .before .before .before .before .before .before .before .before .before .before .before .args in
     let known = sending-suite (a .row .now) (λ j. omega (arith, c .before .before .before .before .before .before .before .before .before .before .before .before .before .before .before .before .shared-slice-known .given j)) (c .before .before .before .before .before .before .before .before .before .before .before .before .before .before .before .before .before .pre .0) (c .before .before .before .before .before .before .before .before .before .before .before .before .before .before .before .before .before .pre .1) (c .before .before .before .before .before .before .before .before .before .before .before .if1 .left) in
-    judged-room (a .row .now) _ (a .metadata .now) (a .plaintext .now) (a .room .now) (c .before .before .before .before .before .before .before .before .before .before .before .if1 .left) _ (c .before .before .before .before .before .before .before .before .before .read-be64 .ensures) (c .before .before .before .before .before .before .before .before .if2 .left) _ (c .before .before .before .before .before .before .before .too-long .ensures) (c .before .before .before .before .before .before .if3 .left) _ _ _ known (c .before .before .suite-in .ensures) (c .before .tag-size .ensures) (c .before .before .before .before .write-next .ensures .0 .0) (c .if4 .taken)
+    judged-room (a .row .now) _ (a .metadata .now) (a .plaintext .now) (a .room .now) (c .before .before .before .before .before .before .before .before .before .before .before .if1 .left) _ (c .before .before .before .before .before .before .before .before .before .before .next-counter .ensures) (c .before .before .before .before .before .before .before .before .if2 .left) _ (c .before .before .before .before .before .before .before .too-long .ensures) (c .before .before .before .before .before .before .if3 .left) _ _ _ known (c .before .before .suite-in .ensures) (c .before .tag-size .ensures) (c .before .before .before .before .write-next .ensures .0 .0) (c .if4 .taken)
 
 returns-5 : tie.Need-returns-5
 returns-5 c =
     let a = c .before .before .before .before .before .before .before .before .before .before .before .before .before .before .before .before .before .args in
     let known = sending-suite (a .row .now) (λ j. omega (arith, c .before .before .before .before .before .before .before .before .before .before .before .before .before .before .before .before .shared-slice-known .given j)) (c .before .before .before .before .before .before .before .before .before .before .before .before .before .before .before .before .before .pre .0) (c .before .before .before .before .before .before .before .before .before .before .before .before .before .before .before .before .before .pre .1) (c .before .before .before .before .before .before .before .before .before .before .before .if1 .left) in
-    judged-done (a .row .now) _ (a .metadata .now) (a .plaintext .now) (a .room .now) (c .before .before .before .before .before .before .before .before .before .before .before .if1 .left) _ (c .before .before .before .before .before .before .before .before .before .read-be64 .ensures) (c .before .before .before .before .before .before .before .before .if2 .left) _ (c .before .before .before .before .before .before .before .too-long .ensures) (c .before .before .before .before .before .before .if3 .left) _ _ _ known (c .before .before .suite-in .ensures) (c .before .tag-size .ensures) (c .before .before .before .before .write-next .ensures .0 .0) (c .if4 .left)
+    judged-done (a .row .now) _ (a .metadata .now) (a .plaintext .now) (a .room .now) (c .before .before .before .before .before .before .before .before .before .before .before .if1 .left) _ (c .before .before .before .before .before .before .before .before .before .before .next-counter .ensures) (c .before .before .before .before .before .before .before .before .if2 .left) _ (c .before .before .before .before .before .before .before .too-long .ensures) (c .before .before .before .before .before .before .if3 .left) _ _ _ known (c .before .before .suite-in .ensures) (c .before .tag-size .ensures) (c .before .before .before .before .write-next .ensures .0 .0) (c .if4 .left)
 
 pub judge-spec : {M : Type 1} → statement M
 judge-spec =
@@ -48,9 +48,6 @@ judge-spec =
     (tie.spec
     (λ c. search needs)
     returns
-    (λ c. search needs)
-    (λ c. search needs)
-    (λ c. search needs)
     (λ c κs. search needs)
     returns-2
     (λ c κs. search needs)

@@ -1,4 +1,4 @@
-use mathlib.Core.Path.{refl}
+use mathlib.Core.Path.{refl, _∙_}
 use native.Mathlib.Omega.{arith}
 use borrow.Author.Needs.{needs}
 use Rattle.sframe.proofs.SealSteps.{seal-unsound, store-whole, seal-missing, Placed, placed, place-inside, row-size, row-obeys, row-held, seal-refused, row-passes, counter-left, seal-done}
@@ -7,16 +7,18 @@ use Rattle.sframe.proofs.sealing.seal.Tie as tie
 
 returns : tie.Need-returns
 returns c =
-    let a = c .before .before .before .before .before .before .before .args in
-    seal-unsound (a .store .now) (a .kid .0) (a .metadata .now) (a .plaintext .now) (a .room .now) _ (c .before .is-sound .ensures) (c .if1 .taken)
+    let a = c .before .before .before .before .before .before .before .before .args in
+    let q = seal-unsound (a .store .now) (a .kid .0) (a .metadata .now) (a .plaintext .now) (a .room .now) _ (c .before .before .is-sound .ensures) (c .before .if1 .taken) in
+    ((c .refused .ensures .0 ∙ q .0 .0, c .refused .ensures .1 ∙ q .0 .1), q .1)
 
 find-requires : tie.Need-find-requires
 find-requires c κs = store-whole _ (λ j. omega (arith, c .before .before .before .before .before .before .before .slice-known .given j)) _ (c .before .before .is-sound .ensures) (c .before .if1 .left)
 
 returns-2 : tie.Need-returns-2
 returns-2 c =
-    let a = c .before .before .before .before .before .before .before .before .before .before .before .args in
-    seal-missing _ (λ j. omega (arith, c .before .before .before .before .before .before .before .before .before .before .slice-known .given j)) _ (c .before .before .before .before .before .is-sound .ensures) (c .before .before .before .before .if1 .left) _ _ (c .before .before .find .ensures) (a .metadata .now) (a .plaintext .now) (a .room .now) (c .enum-told .given .1)
+    let a = c .before .before .before .before .before .before .before .before .before .before .before .before .args in
+    let q = seal-missing _ (λ j. omega (arith, c .before .before .before .before .before .before .before .before .before .before .before .slice-known .given j)) _ (c .before .before .before .before .before .before .is-sound .ensures) (c .before .before .before .before .before .if1 .left) _ _ (c .before .before .before .find .ensures) (a .metadata .now) (a .plaintext .now) (a .room .now) (c .before .enum-told .given .1) in
+    ((c .refused2 .ensures .0 ∙ q .0 .0, c .refused2 .ensures .1 ∙ q .0 .1), q .1)
 
 -- the record that holds the KID
 found-at : (c : tie.After-known-told) → Placed (c .before .before .before .before .before .before .before .before .before .before .before .before .args .store .now) (c .before .before .before .before .before .before .before .before .before .before .before .before .args .kid .0) (c .before .i .given .0 .0)
@@ -36,8 +38,9 @@ judge-requires c κs = (row-size _ _ _ (found-at (c .before .before .before)) _ 
 
 returns-3 : tie.Need-returns-3
 returns-3 c =
-    let a = c .before .before .before .before .before .before .before .before .before .before .before .before .before .before .before .before .before .args in
-    seal-refused _ _ _ (found-at (c .before .before .before .before .before)) _ _ refl refl (a .metadata .now) (a .plaintext .now) (a .room .now) _ (c .before .judge .ensures) (c .if2 .taken)
+    let a = c .before .before .before .before .before .before .before .before .before .before .before .before .before .before .before .before .before .before .args in
+    let q = seal-refused _ _ _ (found-at (c .before .before .before .before .before .before)) _ _ refl refl (a .metadata .now) (a .plaintext .now) (a .room .now) _ (c .before .before .judge .ensures) (c .before .if2 .taken) in
+    ((c .refused3 .ensures .0 ∙ q .0 .0, c .refused3 .ensures .1 ∙ q .0 .1), q .1)
 
 part-write-frame-end : tie.Need-part-write-frame-end
 part-write-frame-end c = omega (arith, place-inside _ _ _ (found-at (c .before .before .before .before .before .before)))
@@ -65,11 +68,13 @@ seal-spec =
     tie.close
     (tie.spec
     (λ c κs. search needs)
+    (λ c κs. search needs)
     (λ c. search needs)
     returns
     find-requires
     (λ c. search needs)
     (λ c. search needs)
+    (λ c κs. search needs)
     (λ c. search needs)
     returns-2
     mul-at
@@ -78,6 +83,7 @@ seal-spec =
     (λ c. search needs)
     part-judge-end
     judge-requires
+    (λ c κs. search needs)
     (λ c. search needs)
     (λ c. search needs)
     returns-3
