@@ -51,7 +51,8 @@ static void round_trip(uint64_t suite, const uint8_t *base_key, size_t base_key_
     const size_t room_len = SFRAME_FRAME_ROOM(sizeof PICTURE);
     uint8_t *ward = lend(store_len), *doctor = lend(store_len);
     uint8_t *frame = lend(room_len), *opened = lend(sizeof PICTURE);
-    size_t frame_len, opened_len, header_len;
+    uint8_t header[SFRAME_MAX_HEADER];
+    size_t frame_len, opened_len, header_len, written_len;
     uint64_t kid, ctr;
 
     expect("make", sframe_make(ward, store_len), SFRAME_DONE);
@@ -65,7 +66,8 @@ static void round_trip(uint64_t suite, const uint8_t *base_key, size_t base_key_
                            &frame_len),
                SFRAME_DONE);
         expect("read header", sframe_read_header(frame, frame_len, &kid, &ctr, &header_len), SFRAME_DONE);
-        if (kid != KID || ctr != counter) {
+        expect("write header", sframe_write_header(KID, counter, header, sizeof header, &written_len), SFRAME_DONE);
+        if (kid != KID || ctr != counter || written_len != header_len || memcmp(header, frame, header_len) != 0) {
             fputs("the frame has another key number or counter\n", stderr);
             exit(EXIT_FAILURE);
         }
