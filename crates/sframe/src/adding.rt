@@ -7,6 +7,12 @@ ghost use Rattle.store.specs.Record.{recordSize, encode};
 ghost use Rattle.suites.specs.Suites.{numberOf};
 ghost use Rattle.sframe.specs.Adding.{markFor};
 ghost use Rattle.sframe.specs.Sframe.{sframe};
+use crate::BASE_KEY_SIZE;
+use crate::KID_HELD;
+use crate::MAX_BASE_KEY;
+use crate::MIN_BASE_KEY;
+use crate::STORE_FULL;
+use crate::SUITE_UNKNOWN;
 use header::Kid;
 use store::DONE;
 use store::KEY;
@@ -19,20 +25,6 @@ use store::SENDING;
 use store::STORE_INVALID;
 use suites::sizes::Found;
 use suites::sizes::Suite;
-
-// The shortest base key, and the longest.
-pub const MIN_BASE_KEY: usize = 16;
-
-pub const MAX_BASE_KEY: usize = 64;
-
-// The numbers of the answers that adding alone gives.
-pub const SUITE_UNKNOWN: u32 = 2;
-
-pub const BASE_KEY_SIZE: u32 = 3;
-
-pub const KID_HELD: u32 = 4;
-
-pub const STORE_FULL: u32 = 5;
 
 // Byte 0 of the record of a key, by what it is added for.
 fn mark_for(role: Role) -> u8

@@ -5,12 +5,25 @@ pub mod sealing;
 
 ghost use mathlib.Core.Path.{_≡_};
 
+// The shortest base key, and the longest.
+pub const MIN_BASE_KEY: usize = 16;
+
+pub const MAX_BASE_KEY: usize = 64;
+
 // The longest plaintext of a frame, and the longest metadata.
 pub const MAX_PLAINTEXT: usize = 32768;
 
 pub const MAX_METADATA: usize = 1024;
 
 // The numbers of the answers that the store does not give.
+pub const SUITE_UNKNOWN: u32 = 2;
+
+pub const BASE_KEY_SIZE: u32 = 3;
+
+pub const KID_HELD: u32 = 4;
+
+pub const STORE_FULL: u32 = 5;
+
 pub const COUNTER_SPENT: u32 = 8;
 
 pub const INPUT_TOO_LONG: u32 = 9;

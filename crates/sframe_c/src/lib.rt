@@ -12,14 +12,10 @@ use header::Ctr;
 use header::Kid;
 use header::Reading;
 use header::Written;
+use sframe::HEADER_INVALID;
+use sframe::ROOM_SHORT;
+use store::DONE;
 use store::Role;
-
-// The numbers of the answers.
-const DONE: u32 = 0;
-
-const HEADER_INVALID: u32 = 10;
-
-const ROOM_SHORT: u32 = 12;
 
 #[no_mangle]
 pub extern "C" fn sframe_write_header(kid: u64, ctr: u64, out: &mut [u8], length: &mut usize) -> u32
