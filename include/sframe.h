@@ -51,7 +51,7 @@ enum sframe_answer {
     /* The record is not for this: sealing takes a sending one, opening a receiving one, and a retired
      * one is not removed again. */
     SFRAME_WRONG_ROLE = 7,
-    /* The key has sealed 2^40 frames. */
+    /* The key's next counter is 2^40: no counter is left. */
     SFRAME_COUNTER_SPENT = 8,
     /* The plaintext exceeds SFRAME_MAX_PLAINTEXT, or the metadata SFRAME_MAX_METADATA. */
     SFRAME_TOO_LONG = 9,

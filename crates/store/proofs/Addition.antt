@@ -1,4 +1,4 @@
--- The steps of adding a key, over plain variables. Assumes nothing.
+-- What an Add answers, cause by cause, over plain variables. Assumes nothing.
 use mathlib.Core.Path.{_≡_, refl, sym, _∙_, ap}
 use mathlib.Core.Bool.{Bool, true, false, not}
 use mathlib.Core.List.{List, [], _∷_}

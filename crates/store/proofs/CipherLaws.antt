@@ -1,4 +1,4 @@
--- What the proofs of the store and its calls use of the cipher suites. The suites' own crate shows it of the five suites.
+-- What the proofs of the store and its calls use of the cipher suites. sframe's proofs show it of the five suites.
 -- Assumes nothing.
 use mathlib.Core.Path.{_≡_}
 use mathlib.Core.Bool.{true}

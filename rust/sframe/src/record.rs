@@ -11,7 +11,7 @@ pub enum State {
     Sending,
     /// Its key opens.
     Receiving,
-    /// Its key sealed and was removed; the key number stays taken.
+    /// Its key was for sealing and is removed; the key number stays taken.
     Retired,
 }
 
