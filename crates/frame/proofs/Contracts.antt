@@ -65,6 +65,16 @@ module _ {M : Type 1} (𝓤 : URA M) where
   abbrev pub whole-clauses : (res : Slot 1) → ((κs : Lfts 1) → List ℕ → res .row κs .Denot → Type 0) → Clauses 𝓤 (whole-ended res)
   whole-clauses res Whole κs a = record { ghost = Unit {0}; requires = λ _. emp 𝓤; ensures = λ _ r _. fact 𝓤 (Whole κs (now (a .0)) r) }
 
--- a contract as a triple
-abbrev pub triple : {M : Type 1} (𝓤 : URA M) (H : Heap 𝓤) (A : Atoms 𝓤) (E : Ended) → Clauses 𝓤 E → Contract 𝓤
-triple 𝓤 H A E c = tripleOf 𝓤 H A (E .signature) (closing 𝓤 H A E c)
+-- ---- the contracts as triples
+module _ {M : Type 1} (𝓤 : URA M) (H : Heap 𝓤) (A : Atoms 𝓤) where
+  abbrev triple : (E : Ended) → Clauses 𝓤 E → Contract 𝓤
+  triple E c = tripleOf 𝓤 H A (E .signature) (closing 𝓤 H A E c)
+
+  abbrev pub New : Contract 𝓤
+  New = triple new-ended (new-clauses 𝓤)
+
+  abbrev pub Part : (ℕ → List ℕ → List ℕ) → Contract 𝓤
+  Part cut = triple part-ended (part-clauses 𝓤 cut)
+
+  abbrev pub Show : (res : Slot 1) → ((κs : Lfts 1) → FrameReader → res .row κs .Denot → Type 0) → Contract 𝓤
+  Show res Shown = triple (shown-ended res) (shown-clauses 𝓤 res Shown)

@@ -31,7 +31,7 @@ use denote.Struct.Declared.{Declared}
 use denote.Struct.Laws as LL
 use denote.Struct.Rest.{all-own, ownAt, rest, own-open, own-out}
 use denote.Struct.Values.{Values}
-use denote.Triple.Statement.{Contract, Triple}
+use denote.Triple.Statement.{Triple}
 use denote.Triple.Call.{calls-at}
 use denote.Triple.Clauses.{closing, ensured, lasts}
 use denote.Triple.Entry.{Vals, onEntry}
@@ -65,10 +65,6 @@ module _ (cut : ℕ → List ℕ → List ℕ) (#part : Name) where
         (seq (call #part (copy (place 2 []) ∷ copy (place 3 []) ∷ []) (place 0 [])) return));
   }
 
-  module _ {M : Type 1} (𝓤 : URA M) (H : Heap 𝓤) (A : Atoms 𝓤) where
-    abbrev pub Part : Contract 𝓤
-    Part = c.triple 𝓤 H A c.part-ended (c.part-clauses 𝓤 cut)
-
   module _ {M : Type 1} (𝓤 : URA M) (H : Heap 𝓤) (A : Atoms 𝓤) (W : Given 𝓤 H A) (κ : Lft) (q : Share) (d : FrameReader) where
     abbrev mach : Val
     mach = T′.lowered d
@@ -97,21 +93,21 @@ module _ (cut : ℕ → List ℕ → List ℕ) (#part : Name) where
     abbrev passed : Vals (c.part-ended .signature) (κ, tt)
     passed = (v ∷ [], (vint w64 (d .length) ∷ [], tt))
 
-    abbrev to : Part 𝓤 H A .Ghost
+    abbrev to : c.Part 𝓤 H A cut .Ghost
     to = (((κ, tt), (q, tt), tt, (d .frame, (d .length, tt)), passed), tt)
 
-    asked : ent 𝓤 (onEntry 𝓤 H A (c.part-ended .signature) (κ, tt) (q, tt) (d .frame, (d .length, tt)) passed) (Part 𝓤 H A .pre to)
+    asked : ent 𝓤 (onEntry 𝓤 H A (c.part-ended .signature) (κ, tt) (q, tt) (d .frame, (d .length, tt)) passed) (c.Part 𝓤 H A cut .pre to)
     asked = qed W ((‵ (flft κ q) ⊛ ‵ ftrue) ∷ ‵ (owns (ShrSlice (named 0) κ u8 ∷ usize ∷ []) (d .frame, (d .length, tt)) passed) ∷ []) ∵ join ! $ frame ! $ done !
 
     -- what the reader owns gives what the callee asks, and is kept
-    apart : d .length < 2 ^ 64 → ent 𝓤 (onEntry 𝓤 H A (c.shown-ended c.bytes .signature) (κ, tt) (q, tt) (d, tt) (mach ∷ [], tt)) (sep 𝓤 (Part 𝓤 H A .pre to) (sem 𝓤 H A Own))
+    apart : d .length < 2 ^ 64 → ent 𝓤 (onEntry 𝓤 H A (c.shown-ended c.bytes .signature) (κ, tt) (q, tt) (d, tt) (mach ∷ [], tt)) (sep 𝓤 (c.Part 𝓤 H A cut .pre to) (sem 𝓤 H A Own))
     apart fits =
         qed W ((‵ (flft κ q) ⊛ ‵ ftrue) ∷ ‵ (owns (c.B (κ, tt) ∷ []) (d, tt) (mach ∷ [], tt)) ∷ []) ∵
         move ! (1 ∷ []) $ fsplit ! $ move ! (1 ∷ []) $ drop ! $ use1 W (‵ Own ⊛ ‵ Own) (LL.copy D (T′.the-copy (namedLft 1 0 tt (κ, tt))) 𝓤 H A W .twice d (mach ∷ [])) $ split ! $
         use1 W (given (mach ∷ [] ≡ mach ∷ []) (‵ (all-own (D .parts) L vd))) (own-open 𝓤 H A W D L vd mach) $ learn ! (λ _. use1 W (‵ (ownAt (D .parts) L 3 (d .frame)) ⊛ ‵ (rest (D .parts) L 3 vd)) (own-out 𝓤 H A W (D .parts) L 3 vd) $ split ! $
         -- [what the frame owns; what the other fields own; what the reader owns; the token]
         move ! (1 ∷ []) $ drop ! $ nothing ! $ owned ! usize (Is usize) (uint-makes 𝓤 H A W w64) (d .length) _ (refl, fits) $ fjoin ! $ move ! (1 ∷ 0 ∷ []) $ fjoin ! $
-        move ! (2 ∷ 0 ∷ []) $ use2 W (raw (Part 𝓤 H A .pre to)) asked $ frame ! $ done !)
+        move ! (2 ∷ 0 ∷ []) $ use2 W (raw (c.Part 𝓤 H A cut .pre to)) asked $ frame ! $ done !)
 
     -- of the callee's `ensured`, the clause alone
     said : (r : RefT (List ℕ)) → ent 𝓤 (ensured 𝓤 H A c.part-ended (c.part-clauses 𝓤 cut) (κ, tt) (d .frame, (d .length, tt)) tt r) (fact 𝓤 (Shown cut (κ, tt) d r))
@@ -123,15 +119,15 @@ module _ (cut : ℕ → List ℕ → List ℕ) (#part : Name) where
         suffices ! _ (ends-at 𝓤 H A (c.shown-ended c.bytes) stayed (c.shown-clauses 𝓤 c.bytes (Shown cut)) W (((κ, tt), (q, tt), tt, (d, tt), (mach ∷ [], tt)), tt) u r (tt, tt) (tt, tt)) $ says ! e $
         move ! (1 ∷ []) $ frame ! $ nothing ! $ move ! (2 ∷ 0 ∷ []) $ fjoin ! $ frame ! $ done !
 
-    module _ (C : Calls 𝓤 H) (Λ : Loops 𝓤 H) (fm : FmC 𝓤 H (W .laws) C) (known : Triple 𝓤 (C #part) (Part 𝓤 H A)) where
+    module _ (C : Calls 𝓤 H) (Λ : Loops 𝓤 H) (fm : FmC 𝓤 H (W .laws) C) (known : Triple 𝓤 (C #part) (c.Part 𝓤 H A cut)) where
       walk : Holds (hasTy (T′.mir (named 0)) mach) × WT mach → ent 𝓤 (onEntry 𝓤 H A (c.shown-ended c.bytes .signature) (κ, tt) (q, tt) (d, tt) (mach ∷ [], tt)) (WpFn 𝓤 H C Λ function (mach ∷ []) Post)
       walk wt =
           qed W (raw (onEntry 𝓤 H A (c.shown-ended c.bytes .signature) (κ, tt) (q, tt) (d, tt) (mach ∷ [], tt)) ∷ []) ∵ enter ! C Λ function (mach ∷ []) _ $
           alloc1 ! (λ l₀. alloc1 ! (λ l₁. alloc1 ! (λ l₂. alloc1 ! (λ l₃. alloc0 ! $ params1 ! $ pass1 ! (init ! 4 refl wt) $ pass0 ! $
           assigns ! (of-opd ! (load ! (from ! (fld ! refl (stop !))) (look-in ! 4 (sub ! 3 refl (whole !))))) (from ! (stop !)) (init ! 2 refl (tt, wt .1 .1 .1 .1 .0)) $
           assigns ! (of-opd ! (load ! (from ! (fld ! refl (stop !))) (look-in ! 4 (sub ! 2 refl (whole !))))) (from ! (stop !)) (init ! 0 refl (tt, wt .1 .1 .1 .0)) $
-          move ! (8 ∷ []) $ use1 W (raw (Part 𝓤 H A .pre to) ⊛ ‵ Own) (apart (wt .1 .1 .1 .0 .fits)) $ split ! $
-          calls-at ! fm (Part 𝓤 H A) known to (and-then ! (load ! (from ! (stop !)) (look ! 4 refl)) (and-then ! (load ! (from ! (stop !)) (look ! 2 refl)) (no-more !))) (λ u.
+          move ! (8 ∷ []) $ use1 W (raw (c.Part 𝓤 H A cut .pre to) ⊛ ‵ Own) (apart (wt .1 .1 .1 .0 .fits)) $ split ! $
+          calls-at ! fm (c.Part 𝓤 H A cut) known to (and-then ! (load ! (from ! (stop !)) (look ! 4 refl)) (and-then ! (load ! (from ! (stop !)) (look ! 2 refl)) (no-more !))) (λ u.
           use1 W (later (some (λ (r : RefT (List ℕ)). ((‵ (flft κ q) ⊛ ‵ ftrue) ⊛ ‵ (ShrSlice (named 0) κ u8 .own r (u ∷ []))) ⊛ raw (ensured 𝓤 H A c.part-ended (c.part-clauses 𝓤 cut) (κ, tt) (d .frame, (d .length, tt)) tt r)))) (id⊢ 𝓤 _) $ await ! tt $ pick ! (λ r.
           split ! $ move ! (1 ∷ []) $ use1 W (raw (fact 𝓤 (Shown cut (κ, tt) d r))) (said r) $ heard ! (Shown cut (κ, tt) d r) (λ e. split ! $ move ! (1 ∷ []) $
           -- [the result; the token; what the reader owns; _3; …; _2; …; _1; …; room for _0; …]
@@ -141,12 +137,12 @@ module _ (cut : ℕ → List ℕ → List ℕ) (#part : Name) where
           move ! (9 ∷ 10 ∷ []) $ free1 ! $ move ! (7 ∷ 8 ∷ []) $ free1 ! $ move ! (5 ∷ 6 ∷ []) $ free1 ! $ move ! (3 ∷ 4 ∷ []) $ free1 ! $ free0 ! $ by ! (exits r u e)))))))))
 
   module _ {M : Type 1} (𝓤 : URA M) (H : Heap 𝓤) (A : Atoms 𝓤) (W : Given 𝓤 H A) where
-    part-walks : (C : Calls 𝓤 H) (Λ : Loops 𝓤 H) → FmC 𝓤 H (W .laws) C → Triple 𝓤 (C #part) (Part 𝓤 H A) → Walks 𝓤 H A (c.shown-ended c.bytes) stayed (WpFn 𝓤 H C Λ function) (c.shown-clauses 𝓤 c.bytes (Shown cut))
+    part-walks : (C : Calls 𝓤 H) (Λ : Loops 𝓤 H) → FmC 𝓤 H (W .laws) C → Triple 𝓤 (C #part) (c.Part 𝓤 H A cut) → Walks 𝓤 H A (c.shown-ended c.bytes) stayed (WpFn 𝓤 H C Λ function) (c.shown-clauses 𝓤 c.bytes (Shown cut))
     part-walks C Λ fm known = walked 𝓤 H A (c.shown-ended c.bytes) stayed (c.shown-clauses 𝓤 c.bytes (Shown cut)) (WpFn 𝓤 H C Λ function)
         (λ κs. (LL.vals (T.the-type (namedLft 1 0 tt κs)) (T′.the-laws (namedLft 1 0 tt κs)), tt)) (λ κs. (LL.tells (T.the-type (namedLft 1 0 tt κs)) (T′.the-laws (namedLft 1 0 tt κs)), tt))
         (λ κs qs bounds a g are. via 𝓤 _ (fst∗ 𝓤 _ (emp 𝓤)) (walk 𝓤 H A W (κs .0) (qs .0) (a .0) C Λ fm known (LL.lawful (T.the-type (namedLft 1 0 tt κs)) (T′.the-laws (namedLft 1 0 tt κs)) 𝓤 H A W .typed (a .0) _ (are .0) .0)))
 
-    pub part-meets : (𝓣 : Tables 𝓤 H) → Triple 𝓤 (𝓣 .C #part) (Part 𝓤 H A) → Meets 𝓤 H A (c.shown-ended c.bytes .signature) (WpFn 𝓤 H (𝓣 .C) (𝓣 .Λ) function) (closing 𝓤 H A (c.shown-ended c.bytes) (c.shown-clauses 𝓤 c.bytes (Shown cut)))
+    pub part-meets : (𝓣 : Tables 𝓤 H) → Triple 𝓤 (𝓣 .C #part) (c.Part 𝓤 H A cut) → Meets 𝓤 H A (c.shown-ended c.bytes .signature) (WpFn 𝓤 H (𝓣 .C) (𝓣 .Λ) function) (closing 𝓤 H A (c.shown-ended c.bytes) (c.shown-clauses 𝓤 c.bytes (Shown cut)))
     part-meets 𝓣 known =
         walk-meets 𝓤 H A (c.shown-ended c.bytes) stayed W (goes-none 𝓤 H A W 1 c.B yes (λ κs x f. refl), tt) (c.shown-clauses 𝓤 c.bytes (Shown cut)) (WpFn 𝓤 H (𝓣 .C) (𝓣 .Λ) function) (WpFn-mono 𝓤 H (W .laws) 𝓣 function)
         (part-walks (𝓣 .C) (𝓣 .Λ) (fmOf 𝓤 H (W .laws) 𝓣) known)

@@ -19,6 +19,7 @@ use denote.Struct.Struct.{layout}
 use denote.Triple.Clauses.{Clauses, Ended, closing}
 use denote.Triple.Spec.{tripleOf}
 use denote.Triple.Statement.{Contract}
+use Rattle.running_hash.proofs.States.{Relations}
 
 -- a slice of bytes
 abbrev pub slice : Lifetime → Ty
@@ -91,31 +92,42 @@ module _ (D : Declared) where
     kept = (yes, (yes, tt));
   }
 
-  module _ {M : Type 1} (𝓤 : URA M) where
-    -- which pieces are taken, and what their digest is
-    abbrev pub pieces-clauses : (n : ℕ) → (List ℕ → List ℕ → Type 0) → (List ℕ → List ℕ → List ℕ → Type 0) → Clauses 𝓤 (pieces-ended n)
-    pieces-clauses n Within Result κs a = record { ghost = Unit {0}; requires = λ _. fact 𝓤 (Within (now (a .0)) (now (a .1 .0))); ensures = λ _ r _. fact 𝓤 (Result (now (a .0)) (now (a .1 .0)) r) }
+  -- which pieces are taken, and what their digest is
+  abbrev pub pieces-clauses : {M : Type 1} (𝓤 : URA M) (n : ℕ) → (List ℕ → List ℕ → Type 0) → (List ℕ → List ℕ → List ℕ → Type 0) → Clauses 𝓤 (pieces-ended n)
+  pieces-clauses 𝓤 n Within Result κs a = record { ghost = Unit {0}; requires = λ _. fact 𝓤 (Within (now (a .0)) (now (a .1 .0))); ensures = λ _ r _. fact 𝓤 (Result (now (a .0)) (now (a .1 .0)) r) }
 
-    -- what a new state is
-    abbrev pub new-clauses : (D .D → Type 0) → Clauses 𝓤 new-ended
-    new-clauses Fresh κs a = record { ghost = Unit {0}; requires = λ _. emp 𝓤; ensures = λ _ r _. fact 𝓤 (Fresh r) }
+  module _ (P : Relations (D .D)) {M : Type 1} (𝓤 : URA M) where
+    abbrev pub new-clauses : Clauses 𝓤 new-ended
+    new-clauses κs a = record { ghost = Unit {0}; requires = λ _. emp 𝓤; ensures = λ _ r _. fact 𝓤 (P .Fresh r) }
 
-    -- when a state may be fed some bytes, and what that makes of it
-    module _ (May : D .D → List ℕ → Type 0) (Fed : D .D → List ℕ → D .D → Type 0) where
-      abbrev pub core-feed-clauses : Clauses 𝓤 core-feed-ended
-      core-feed-clauses κs a = record { ghost = Unit {0}; requires = λ _. fact 𝓤 (May (a .0) (now (a .1 .0))); ensures = λ _ r _. fact 𝓤 (Fed (a .0) (now (a .1 .0)) r) }
+    abbrev pub core-feed-clauses : Clauses 𝓤 core-feed-ended
+    core-feed-clauses κs a = record { ghost = Unit {0}; requires = λ _. fact 𝓤 (P .May (a .0) (now (a .1 .0))); ensures = λ _ r _. fact 𝓤 (P .Fed (a .0) (now (a .1 .0)) r) }
 
-      abbrev pub feed-clauses : Clauses 𝓤 feed-ended
-      feed-clauses κs a = record { ghost = Unit {0}; requires = λ _. fact 𝓤 (May (now (a .0)) (now (a .1 .0))); ensures = λ _ _ e. fact 𝓤 (Fed (now (a .0)) (now (a .1 .0)) (now (e .0))) }
+    abbrev pub feed-clauses : Clauses 𝓤 feed-ended
+    feed-clauses κs a = record { ghost = Unit {0}; requires = λ _. fact 𝓤 (P .May (now (a .0)) (now (a .1 .0))); ensures = λ _ _ e. fact 𝓤 (P .Fed (now (a .0)) (now (a .1 .0)) (now (e .0))) }
 
-    -- when a state may be ended, and what its digest is
-    module _ (n : ℕ) (Ends : D .D → Type 0) (Digest : D .D → List ℕ → Type 0) where
-      abbrev pub core-finish-clauses : Clauses 𝓤 (core-finish-ended n)
-      core-finish-clauses κs a = record { ghost = Unit {0}; requires = λ _. fact 𝓤 (Ends (a .0)); ensures = λ _ r _. fact 𝓤 (Digest (a .0) r) }
+    abbrev pub core-finish-clauses : (n : ℕ) → Clauses 𝓤 (core-finish-ended n)
+    core-finish-clauses n κs a = record { ghost = Unit {0}; requires = λ _. fact 𝓤 (P .Ends (a .0)); ensures = λ _ r _. fact 𝓤 (P .Digest (a .0) r) }
 
-      abbrev pub finish-clauses : (D .D → Type 0) → Clauses 𝓤 (finish-ended n)
-      finish-clauses Fresh κs a = record { ghost = Unit {0}; requires = λ _. fact 𝓤 (Ends (now (a .0))); ensures = λ _ r e. fact 𝓤 (Digest (now (a .0)) r × Fresh (now (e .0))) }
+    abbrev pub finish-clauses : (n : ℕ) → Clauses 𝓤 (finish-ended n)
+    finish-clauses n κs a = record { ghost = Unit {0}; requires = λ _. fact 𝓤 (P .Ends (now (a .0))); ensures = λ _ r e. fact 𝓤 (P .Digest (now (a .0)) r × P .Fresh (now (e .0))) }
 
--- a contract as a triple
-abbrev pub triple : {M : Type 1} (𝓤 : URA M) (H : Heap 𝓤) (A : Atoms 𝓤) (E : Ended) → Clauses 𝓤 E → Contract 𝓤
-triple 𝓤 H A E c = tripleOf 𝓤 H A (E .signature) (closing 𝓤 H A E c)
+    -- ---- the contracts as triples
+    module _ (H : Heap 𝓤) (A : Atoms 𝓤) where
+      abbrev triple : (E : Ended) → Clauses 𝓤 E → Contract 𝓤
+      triple E c = tripleOf 𝓤 H A (E .signature) (closing 𝓤 H A E c)
+
+      abbrev pub New : Contract 𝓤
+      New = triple new-ended new-clauses
+
+      abbrev pub CoreFeed : Contract 𝓤
+      CoreFeed = triple core-feed-ended core-feed-clauses
+
+      abbrev pub Feed : Contract 𝓤
+      Feed = triple feed-ended feed-clauses
+
+      abbrev pub CoreFinish : ℕ → Contract 𝓤
+      CoreFinish n = triple (core-finish-ended n) (core-finish-clauses n)
+
+      abbrev pub Finish : ℕ → Contract 𝓤
+      Finish n = triple (finish-ended n) (finish-clauses n)

@@ -32,14 +32,15 @@ use denote.Struct.Steps.{spelt}
 use denote.Struct.Struct.{Plains}
 use denote.Triple.Entry.{onEntry}
 use denote.Triple.Spec.{Meets}
-use denote.Triple.Statement.{Contract, Triple}
+use denote.Triple.Statement.{Triple}
 use denote.Triple.Call.{calls-at}
 use denote.Triple.Clauses.{closing, ensured, lasts}
 use denote.Triple.Walked.{says, needs, Stays, stay-ref, stay-none-slice, walkOf, goes-ref, goes-none-slice, Walks, ends-at, walked, walk-meets}
 use denote.Exit.{yes}
 use Rattle.running_hash.proofs.Contracts as c
+use Rattle.running_hash.proofs.States.{Relations}
 
-module _ (D : Declared) (L : LL.Laws D) (plains : Plains (fields D)) (May : D .D → List ℕ → Type 0) (Fed : D .D → List ℕ → D .D → Type 0) (#core : Name) where
+module _ (D : Declared) (L : LL.Laws D) (plains : Plains (fields D)) (P : Relations (D .D)) (#core : Name) where
   abbrev stayed : Stays (c.feed-ended D .signature .params) (c.feed-ended D .kept)
   stayed = (stay-ref (0 ∷ []) tt (plain (λ _. c.R D)), (stay-none-slice (1 ∷ []) tt (plain (λ _. u8)) yes, tt))
 
@@ -57,10 +58,6 @@ module _ (D : Declared) (L : LL.Laws D) (plains : Plains (fields D)) (May : D .D
         (seq (assign (place 0 []) (rvOpd opdUnit)) return)));
   }
 
-  module _ {M : Type 1} (𝓤 : URA M) (H : Heap 𝓤) (A : Atoms 𝓤) where
-    abbrev pub Core : Contract 𝓤
-    Core = c.triple 𝓤 H A (c.core-feed-ended D) (c.core-feed-clauses D 𝓤 May Fed)
-
   module _ {M : Type 1} (𝓤 : URA M) (H : Heap 𝓤) (A : Atoms 𝓤) (W : Given 𝓤 H A) (κ κ′ : Lft) (q q′ : Share) (b o : ℕ) (γ : GName) (h : D .D) (s : RefT (List ℕ)) where
     abbrev x : RefT (D .D) × (RefT (List ℕ) × Unit {0})
     x = (record { ptr = (b, o); name = γ; now = h }, (s, tt))
@@ -76,33 +73,33 @@ module _ (D : Declared) (L : LL.Laws D) (plains : Plains (fields D)) (May : D .D
     at = (vptr b o ∷ [], (v ∷ [], tt))
 
     abbrev Post : Val → SProp 𝓤
-    Post = walkOf 𝓤 H A (c.feed-ended D) stayed (c.feed-clauses D 𝓤 May Fed) .post (((κ, (κ′, tt)), (q, (q′, tt)), tt, x, at), tt)
+    Post = walkOf 𝓤 H A (c.feed-ended D) stayed (c.feed-clauses D P 𝓤) .post (((κ, (κ′, tt)), (q, (q′, tt)), tt, x, at), tt)
 
     abbrev Own : Fml
     Own = ShrSlice (named 1) κ′ u8 .own s (v ∷ [])
 
     -- what the callee's triple binds outside, what it asks, and what is known of its result
-    abbrev to : Core 𝓤 H A .Ghost
+    abbrev to : c.CoreFeed D P 𝓤 H A .Ghost
     to = (((κ′, tt), (q′, tt), tt, (h, (s, tt)), (mach ∷ [], (v ∷ [], tt))), tt)
 
-    goes : May h (now s) → Is (c.R D) h (mach ∷ []) → ent 𝓤 (⋆ 𝓤 H A (‵ Own ∷ (‵ (flft κ′ q′) ⊛ ‵ ftrue) ∷ [])) (Core 𝓤 H A .pre to)
+    goes : P .May h (now s) → Is (c.R D) h (mach ∷ []) → ent 𝓤 (⋆ 𝓤 H A (‵ Own ∷ (‵ (flft κ′ q′) ⊛ ‵ ftrue) ∷ [])) (c.CoreFeed D P 𝓤 H A .pre to)
     goes may g =
         qed W (‵ Own ∷ (‵ (flft κ′ q′) ⊛ ‵ ftrue) ∷ []) ∵ says ! may $ move ! (1 ∷ 0 ∷ []) $ frame ! $ nothing ! $ move ! (1 ∷ 0 ∷ []) $ fjoin ! $
         owned ! (c.R D) (Is (c.R D)) (LL.makes D plains 𝓤 H A) h _ g $ fjoin ! $ done !
 
-    said : (r : D .D) → ent 𝓤 (ensured 𝓤 H A (c.core-feed-ended D) (c.core-feed-clauses D 𝓤 May Fed) (κ′, tt) (h, (s, tt)) tt r) (fact 𝓤 (Fed h (now s) r))
-    said r = exE 𝓤 _ (λ ws. snd∗ 𝓤 (sem 𝓤 H A (lasts (c.core-feed-ended D) (κ′, tt) (h, (s, tt)) ws)) (fact 𝓤 (Fed h (now s) r)))
+    said : (r : D .D) → ent 𝓤 (ensured 𝓤 H A (c.core-feed-ended D) (c.core-feed-clauses D P 𝓤) (κ′, tt) (h, (s, tt)) tt r) (fact 𝓤 (P .Fed h (now s) r))
+    said r = exE 𝓤 _ (λ ws. snd∗ 𝓤 (sem 𝓤 H A (lasts (c.core-feed-ended D) (κ′, tt) (h, (s, tt)) ws)) (fact 𝓤 (P .Fed h (now s) r)))
 
-    exits : (r : D .D) → Fed h (now s) r
+    exits : (r : D .D) → P .Fed h (now s) r
         → ent 𝓤 (⋆ 𝓤 H A (‵ (fobs γ (c.R D .coded .code r)) ∷ ‵ (fbor κ (Body (mem (c.R D)) b o γ)) ∷ ‵ (flft κ q) ∷ (‵ (flft κ′ q′) ⊛ ‵ ftrue) ∷ ‵ Own ∷ [])) (Post vunit)
     exits r e =
         qed W (‵ (fobs γ (c.R D .coded .code r)) ∷ ‵ (fbor κ (Body (mem (c.R D)) b o γ)) ∷ ‵ (flft κ q) ∷ (‵ (flft κ′ q′) ⊛ ‵ ftrue) ∷ ‵ Own ∷ []) ∵
-        suffices ! _ (ends-at 𝓤 H A (c.feed-ended D) stayed (c.feed-clauses D 𝓤 May Fed) W (((κ, (κ′, tt)), (q, (q′, tt)), tt, x, at), tt) vunit tt (r, (tt, tt)) (tt, (tt, tt))) $ says ! e $
+        suffices ! _ (ends-at 𝓤 H A (c.feed-ended D) stayed (c.feed-clauses D P 𝓤) W (((κ, (κ′, tt)), (q, (q′, tt)), tt, x, at), tt) vunit tt (r, (tt, tt)) (tt, (tt, tt))) $ says ! e $
         move ! (2 ∷ 3 ∷ []) $ join ! $ frame ! $ feqI ! (List Val) (vptr b o ∷ []) (vptr b o ∷ []) refl $ fjoin3 ! $
         nothing ! $ move ! (2 ∷ 0 ∷ []) $ fjoin ! $ move ! (1 ∷ 0 ∷ []) $ fjoin ! $ feqI ! (List Val) (vunit ∷ []) (vunit ∷ []) refl $ move ! (1 ∷ 0 ∷ []) $ done !
 
-    module _ (C : Calls 𝓤 H) (Λ : Loops 𝓤 H) (fm : FmC 𝓤 H (W .laws) C) (known : Triple 𝓤 (C #core) (Core 𝓤 H A)) where
-      walk : Is (ShrSlice (named 1) κ′ u8) s (v ∷ []) → May h (now s) → ent 𝓤 (onEntry 𝓤 H A (c.feed-ended D .signature) (κ, (κ′, tt)) (q, (q′, tt)) x at) (WpFn 𝓤 H C Λ function (vptr b o ∷ v ∷ []) Post)
+    module _ (C : Calls 𝓤 H) (Λ : Loops 𝓤 H) (fm : FmC 𝓤 H (W .laws) C) (known : Triple 𝓤 (C #core) (c.CoreFeed D P 𝓤 H A)) where
+      walk : Is (ShrSlice (named 1) κ′ u8) s (v ∷ []) → P .May h (now s) → ent 𝓤 (onEntry 𝓤 H A (c.feed-ended D .signature) (κ, (κ′, tt)) (q, (q′, tt)) x at) (WpFn 𝓤 H C Λ function (vptr b o ∷ v ∷ []) Post)
       walk p may =
           qed W ((‵ (flft κ q) ⊛ (‵ (flft κ′ q′) ⊛ ‵ ftrue)) ∷ ‵ (owns (MutRef (named 0) κ (c.R D) ∷ ShrSlice (named 1) κ′ u8 ∷ []) x at) ∷ []) ∵
           split ! $ move ! (2 ∷ []) $ fsplit ! $ move ! (1 ∷ []) $ fsplit ! $ move ! (2 ∷ []) $ fsplit3 ! $ drop ! $ move ! (0 ∷ 1 ∷ 4 ∷ []) $
@@ -116,11 +113,11 @@ module _ (D : Declared) (L : LL.Laws D) (plains : Plains (fields D)) (May : D .D
           -- [the state's cell; what it owns; the open borrow; obs; auth; _4; …; _3; …; _2; …; _1; …; room for _0; …; what s owns; true; the other token]
           assigns ! (of-opd ! (load ! (from ! (hop ! (look ! 11 refl) (stop !))) (look ! 0 refl))) (from ! (stop !)) (init ! 7 refl (LL.lawful D L 𝓤 H A W .typed h _ g .0)) $
           move ! (15 ∷ 17 ∷ []) $ use1 W (‵ Own ⊛ ‵ Own) (shr-slice-copy 𝓤 H A W (named 1) κ′ u8 .twice s (v ∷ [])) $ split ! $
-          move ! (0 ∷ 2 ∷ []) $ use2 W (raw (Core 𝓤 H A .pre to)) (goes may g) $
+          move ! (0 ∷ 2 ∷ []) $ use2 W (raw (c.CoreFeed D P 𝓤 H A .pre to)) (goes may g) $
           -- [what the callee asks; what s owns; the state's cell; …; auth; _4; …]
-          calls-at ! fm (Core 𝓤 H A) known to (and-then ! (load ! (from ! (stop !)) (look ! 9 refl)) (and-then ! (load ! (from ! (stop !)) (look ! 11 refl)) (no-more !))) (λ w.
-          use1 W (later (some (λ (r : D .D). ((‵ (flft κ′ q′) ⊛ ‵ ftrue) ⊛ ‵ (c.R D .own r (w ∷ []))) ⊛ raw (ensured 𝓤 H A (c.core-feed-ended D) (c.core-feed-clauses D 𝓤 May Fed) (κ′, tt) (h, (s, tt)) tt r)))) (id⊢ 𝓤 _) $ await ! tt $ pick ! (λ r.
-          split ! $ move ! (1 ∷ []) $ use1 W (raw (fact 𝓤 (Fed h (now s) r))) (said r) $ heard ! (Fed h (now s) r) (λ e. split ! $ move ! (1 ∷ []) $
+          calls-at ! fm (c.CoreFeed D P 𝓤 H A) known to (and-then ! (load ! (from ! (stop !)) (look ! 9 refl)) (and-then ! (load ! (from ! (stop !)) (look ! 11 refl)) (no-more !))) (λ w.
+          use1 W (later (some (λ (r : D .D). ((‵ (flft κ′ q′) ⊛ ‵ ftrue) ⊛ ‵ (c.R D .own r (w ∷ []))) ⊛ raw (ensured 𝓤 H A (c.core-feed-ended D) (c.core-feed-clauses D P 𝓤) (κ′, tt) (h, (s, tt)) tt r)))) (id⊢ 𝓤 _) $ await ! tt $ pick ! (λ r.
+          split ! $ move ! (1 ∷ []) $ use1 W (raw (fact 𝓤 (P .Fed h (now s) r))) (said r) $ heard ! (P .Fed h (now s) r) (λ e. split ! $ move ! (1 ∷ []) $
           -- [what the result owns; the other token; what s owns; the state's cell; what it owned; the open borrow; obs; auth; _4; …]
           peeks ! (c.R D) (Is (c.R D)) (shows 𝓤 H A (c.R D)) r (w ∷ []) (λ is.
           land ! (from ! (stop !)) (init ! 8 refl (LL.lawful D L 𝓤 H A W .typed r _ is .0)) $
@@ -134,11 +131,11 @@ module _ (D : Declared) (L : LL.Laws D) (plains : Plains (fields D)) (May : D .D
           keep ! (0 ∷ 1 ∷ 2 ∷ 3 ∷ 4 ∷ []) $ by ! (exits r e))))))))))))
 
   module _ {M : Type 1} (𝓤 : URA M) (H : Heap 𝓤) (A : Atoms 𝓤) (W : Given 𝓤 H A) where
-    feed-walks : (C : Calls 𝓤 H) (Λ : Loops 𝓤 H) → FmC 𝓤 H (W .laws) C → Triple 𝓤 (C #core) (Core 𝓤 H A) → Walks 𝓤 H A (c.feed-ended D) stayed (WpFn 𝓤 H C Λ function) (c.feed-clauses D 𝓤 May Fed)
-    feed-walks C Λ fm known = walked 𝓤 H A (c.feed-ended D) stayed (c.feed-clauses D 𝓤 May Fed) (WpFn 𝓤 H C Λ function) (λ κs. (ptr-vals, (slice-vals, tt))) (λ κs. (mut-tells (named 0) (κs .0) (c.R D), (shr-slice-tells (named 1) (κs .1 .0) u8, tt)))
-        (λ κs qs bounds a g are. needs 𝓤 (May (now (a .0)) (now (a .1 .0))) _ (walk 𝓤 H A W (κs .0) (κs .1 .0) (qs .0) (qs .1 .0) (a .0 .ptr .0) (a .0 .ptr .1) (a .0 .name) (a .0 .now) (a .1 .0) C Λ fm known (are .1 .0)))
+    feed-walks : (C : Calls 𝓤 H) (Λ : Loops 𝓤 H) → FmC 𝓤 H (W .laws) C → Triple 𝓤 (C #core) (c.CoreFeed D P 𝓤 H A) → Walks 𝓤 H A (c.feed-ended D) stayed (WpFn 𝓤 H C Λ function) (c.feed-clauses D P 𝓤)
+    feed-walks C Λ fm known = walked 𝓤 H A (c.feed-ended D) stayed (c.feed-clauses D P 𝓤) (WpFn 𝓤 H C Λ function) (λ κs. (ptr-vals, (slice-vals, tt))) (λ κs. (mut-tells (named 0) (κs .0) (c.R D), (shr-slice-tells (named 1) (κs .1 .0) u8, tt)))
+        (λ κs qs bounds a g are. needs 𝓤 (P .May (now (a .0)) (now (a .1 .0))) _ (walk 𝓤 H A W (κs .0) (κs .1 .0) (qs .0) (qs .1 .0) (a .0 .ptr .0) (a .0 .ptr .1) (a .0 .name) (a .0 .now) (a .1 .0) C Λ fm known (are .1 .0)))
 
-    pub feed-meets : (𝓣 : Tables 𝓤 H) → Triple 𝓤 (𝓣 .C #core) (Core 𝓤 H A) → Meets 𝓤 H A (c.feed-ended D .signature) (WpFn 𝓤 H (𝓣 .C) (𝓣 .Λ) function) (closing 𝓤 H A (c.feed-ended D) (c.feed-clauses D 𝓤 May Fed))
+    pub feed-meets : (𝓣 : Tables 𝓤 H) → Triple 𝓤 (𝓣 .C #core) (c.CoreFeed D P 𝓤 H A) → Meets 𝓤 H A (c.feed-ended D .signature) (WpFn 𝓤 H (𝓣 .C) (𝓣 .Λ) function) (closing 𝓤 H A (c.feed-ended D) (c.feed-clauses D P 𝓤))
     feed-meets 𝓣 known =
-        walk-meets 𝓤 H A (c.feed-ended D) stayed W (goes-ref 𝓤 H A W 2 0 tt (plain (λ _. c.R D)), (goes-none-slice 𝓤 H A W 2 (1 ∷ []) tt (plain (λ _. u8)) yes, tt)) (c.feed-clauses D 𝓤 May Fed)
+        walk-meets 𝓤 H A (c.feed-ended D) stayed W (goes-ref 𝓤 H A W 2 0 tt (plain (λ _. c.R D)), (goes-none-slice 𝓤 H A W 2 (1 ∷ []) tt (plain (λ _. u8)) yes, tt)) (c.feed-clauses D P 𝓤)
         (WpFn 𝓤 H (𝓣 .C) (𝓣 .Λ) function) (WpFn-mono 𝓤 H (W .laws) 𝓣 function) (feed-walks (𝓣 .C) (𝓣 .Λ) (fmOf 𝓤 H (W .laws) 𝓣) known)

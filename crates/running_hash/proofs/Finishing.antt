@@ -31,7 +31,7 @@ use denote.Struct.Laws as LL
 use denote.Struct.Steps.{spelt}
 use denote.Triple.Entry.{onEntry}
 use denote.Triple.Spec.{Meets}
-use denote.Triple.Statement.{Contract, Triple}
+use denote.Triple.Statement.{Triple}
 use denote.Triple.Call.{calls-at}
 use denote.Triple.Clauses.{closing, ensured, lasts}
 use denote.Triple.Walked.{says, needs, Stays, stay-ref, walkOf, goes-ref, Walks, ends-at, walked, walk-meets}
@@ -57,13 +57,6 @@ module _ (D : Declared) (L : LL.Laws D) (n : ℕ) (P : Relations (D .D)) (#finis
         (seq (assign (place 0 []) (rvOpd (copy (place 3 [])))) return))));
   }
 
-  module _ {M : Type 1} (𝓤 : URA M) (H : Heap 𝓤) (A : Atoms 𝓤) where
-    abbrev pub Core : Contract 𝓤
-    Core = c.triple 𝓤 H A (c.core-finish-ended D n) (c.core-finish-clauses D 𝓤 n (P .Ends) (P .Digest))
-
-    abbrev pub New : Contract 𝓤
-    New = c.triple 𝓤 H A (c.new-ended D) (c.new-clauses D 𝓤 (P .Fresh))
-
   -- the digest's type
   abbrev B : RattleType
   B = Array u8 n
@@ -76,35 +69,35 @@ module _ (D : Declared) (L : LL.Laws D) (n : ℕ) (P : Relations (D .D)) (#finis
     mach = LL.val D L h
 
     abbrev Post : Val → SProp 𝓤
-    Post = walkOf 𝓤 H A (c.finish-ended D n) stayed (c.finish-clauses D 𝓤 n (P .Ends) (P .Digest) (P .Fresh)) .post (((κ, tt), (q, tt), tt, x, (vptr b o ∷ [], tt)), tt)
+    Post = walkOf 𝓤 H A (c.finish-ended D n) stayed (c.finish-clauses D P 𝓤 n) .post (((κ, tt), (q, tt), tt, x, (vptr b o ∷ [], tt)), tt)
 
     -- the two calls: what each triple binds outside, what it asks, and what is known of its result
-    abbrev to : Core 𝓤 H A .Ghost
+    abbrev to : c.CoreFinish D P 𝓤 H A n .Ghost
     to = ((tt, tt, tt, (h, tt), (mach ∷ [], tt)), tt)
 
-    goes : P .Ends h → ent 𝓤 (⋆ 𝓤 H A (‵ (c.R D .own h (mach ∷ [])) ∷ [])) (Core 𝓤 H A .pre to)
+    goes : P .Ends h → ent 𝓤 (⋆ 𝓤 H A (‵ (c.R D .own h (mach ∷ [])) ∷ [])) (c.CoreFinish D P 𝓤 H A n .pre to)
     goes ends = qed W (‵ (c.R D .own h (mach ∷ [])) ∷ []) ∵ says ! ends $ nothing ! $ move ! (1 ∷ 0 ∷ []) $ fjoin ! $ nothing ! $ frame ! $ done !
 
-    said : (d : List ℕ) → ent 𝓤 (ensured 𝓤 H A (c.core-finish-ended D n) (c.core-finish-clauses D 𝓤 n (P .Ends) (P .Digest)) tt (h, tt) tt d) (fact 𝓤 (P .Digest h d))
+    said : (d : List ℕ) → ent 𝓤 (ensured 𝓤 H A (c.core-finish-ended D n) (c.core-finish-clauses D P 𝓤 n) tt (h, tt) tt d) (fact 𝓤 (P .Digest h d))
     said d = exE 𝓤 _ (λ ws. snd∗ 𝓤 (sem 𝓤 H A (lasts (c.core-finish-ended D n) tt (h, tt) ws)) (fact 𝓤 (P .Digest h d)))
 
-    abbrev to-new : New 𝓤 H A .Ghost
+    abbrev to-new : c.New D P 𝓤 H A .Ghost
     to-new = ((tt, tt, tt, tt, tt), tt)
 
-    goes-new : ent 𝓤 (⋆ 𝓤 H A (‵ ftrue ∷ [])) (New 𝓤 H A .pre to-new)
+    goes-new : ent 𝓤 (⋆ 𝓤 H A (‵ ftrue ∷ [])) (c.New D P 𝓤 H A .pre to-new)
     goes-new = qed W (‵ ftrue ∷ []) ∵ nothing ! $ join ! $ frame ! $ done !
 
-    new-said : (r : D .D) → ent 𝓤 (ensured 𝓤 H A (c.new-ended D) (c.new-clauses D 𝓤 (P .Fresh)) tt tt tt r) (fact 𝓤 (P .Fresh r))
+    new-said : (r : D .D) → ent 𝓤 (ensured 𝓤 H A (c.new-ended D) (c.new-clauses D P 𝓤) tt tt tt r) (fact 𝓤 (P .Fresh r))
     new-said r = exE 𝓤 _ (λ ws. snd∗ 𝓤 (sem 𝓤 H A (lasts (c.new-ended D) tt tt ws)) (fact 𝓤 (P .Fresh r)))
 
     exits : (d : List ℕ) (w : Val) (r : D .D) → P .Digest h d → P .Fresh r
         → ent 𝓤 (⋆ 𝓤 H A (‵ (fobs γ (c.R D .coded .code r)) ∷ ‵ (fbor κ (Body (mem (c.R D)) b o γ)) ∷ ‵ (flft κ q) ∷ ‵ (B .own d (w ∷ [])) ∷ [])) (Post w)
     exits d w r e₁ e₂ =
         qed W (‵ (fobs γ (c.R D .coded .code r)) ∷ ‵ (fbor κ (Body (mem (c.R D)) b o γ)) ∷ ‵ (flft κ q) ∷ ‵ (B .own d (w ∷ [])) ∷ []) ∵
-        suffices ! _ (ends-at 𝓤 H A (c.finish-ended D n) stayed (c.finish-clauses D 𝓤 n (P .Ends) (P .Digest) (P .Fresh)) W (((κ, tt), (q, tt), tt, x, (vptr b o ∷ [], tt)), tt) w d (r, tt) (tt, tt)) $ says ! (e₁, e₂) $
+        suffices ! _ (ends-at 𝓤 H A (c.finish-ended D n) stayed (c.finish-clauses D P 𝓤 n) W (((κ, tt), (q, tt), tt, x, (vptr b o ∷ [], tt)), tt) w d (r, tt) (tt, tt)) $ says ! (e₁, e₂) $
         nothing ! $ move ! (3 ∷ 0 ∷ []) $ join ! $ frame ! $ feqI ! (List Val) (vptr b o ∷ []) (vptr b o ∷ []) refl $ fjoin3 ! $ nothing ! $ move ! (1 ∷ 0 ∷ []) $ fjoin ! $ done !
 
-    module _ (C : Calls 𝓤 H) (Λ : Loops 𝓤 H) (fm : FmC 𝓤 H (W .laws) C) (known : Triple 𝓤 (C #finish) (Core 𝓤 H A)) (known-new : Triple 𝓤 (C #new) (New 𝓤 H A)) where
+    module _ (C : Calls 𝓤 H) (Λ : Loops 𝓤 H) (fm : FmC 𝓤 H (W .laws) C) (known : Triple 𝓤 (C #finish) (c.CoreFinish D P 𝓤 H A n)) (known-new : Triple 𝓤 (C #new) (c.New D P 𝓤 H A)) where
       walk : P .Ends h → ent 𝓤 (onEntry 𝓤 H A (c.finish-ended D n .signature) (κ, tt) (q, tt) x (vptr b o ∷ [], tt)) (WpFn 𝓤 H C Λ function (vptr b o ∷ []) Post)
       walk ends =
           qed W ((‵ (flft κ q) ⊛ ‵ ftrue) ∷ ‵ (owns (MutRef (named 0) κ (c.R D) ∷ []) x (vptr b o ∷ [], tt)) ∷ []) ∵
@@ -117,16 +110,16 @@ module _ (D : Declared) (L : LL.Laws D) (n : ℕ) (P : Relations (D .D)) (#finis
           move ! (1 ∷ []) $ peeks ! (c.R D) (Is (c.R D)) (shows 𝓤 H A (c.R D)) h (mach ∷ []) (λ g.
           -- [what the state owns; its cell; the open borrow; obs; auth; _4; …; _3; …; _2; …; _1; …; room for _0; …]
           assigns ! (of-opd ! (load ! (from ! (hop ! (look ! 11 refl) (stop !))) (look ! 1 refl))) (from ! (stop !)) (init ! 9 refl (LL.lawful D L 𝓤 H A W .typed h _ g .0)) $
-          use1 W (raw (Core 𝓤 H A .pre to)) (goes ends) $
-          calls-at ! fm (Core 𝓤 H A) known to (and-then ! (load ! (from ! (stop !)) (look ! 9 refl)) (no-more !)) (λ w.
-          use1 W (later (some (λ (d : List ℕ). (‵ ftrue ⊛ ‵ (B .own d (w ∷ []))) ⊛ raw (ensured 𝓤 H A (c.core-finish-ended D n) (c.core-finish-clauses D 𝓤 n (P .Ends) (P .Digest)) tt (h, tt) tt d)))) (id⊢ 𝓤 _) $ await ! tt $ pick ! (λ d.
+          use1 W (raw (c.CoreFinish D P 𝓤 H A n .pre to)) (goes ends) $
+          calls-at ! fm (c.CoreFinish D P 𝓤 H A n) known to (and-then ! (load ! (from ! (stop !)) (look ! 9 refl)) (no-more !)) (λ w.
+          use1 W (later (some (λ (d : List ℕ). (‵ ftrue ⊛ ‵ (B .own d (w ∷ []))) ⊛ raw (ensured 𝓤 H A (c.core-finish-ended D n) (c.core-finish-clauses D P 𝓤 n) tt (h, tt) tt d)))) (id⊢ 𝓤 _) $ await ! tt $ pick ! (λ d.
           split ! $ move ! (1 ∷ []) $ use1 W (raw (fact 𝓤 (P .Digest h d))) (said d) $ heard ! (P .Digest h d) (λ e₁. split ! $ drop ! $
           -- [what the digest owns; the state's cell; the open borrow; obs; auth; _4; …]
           peeks ! B (Is B) (shows 𝓤 H A B) d (w ∷ []) (λ is₁.
           land ! (from ! (stop !)) (init ! 7 refl (array-lawful 𝓤 H A W u8 (uint-lawful 𝓤 H A W w8) n .typed d _ is₁ .0)) $
-          nothing ! $ use1 W (raw (New 𝓤 H A .pre to-new)) goes-new $
-          calls-at ! fm (New 𝓤 H A) known-new to-new (no-more !) (λ w′.
-          use1 W (later (some (λ (r : D .D). (‵ ftrue ⊛ ‵ (c.R D .own r (w′ ∷ []))) ⊛ raw (ensured 𝓤 H A (c.new-ended D) (c.new-clauses D 𝓤 (P .Fresh)) tt tt tt r)))) (id⊢ 𝓤 _) $ await ! tt $ pick ! (λ r.
+          nothing ! $ use1 W (raw (c.New D P 𝓤 H A .pre to-new)) goes-new $
+          calls-at ! fm (c.New D P 𝓤 H A) known-new to-new (no-more !) (λ w′.
+          use1 W (later (some (λ (r : D .D). (‵ ftrue ⊛ ‵ (c.R D .own r (w′ ∷ []))) ⊛ raw (ensured 𝓤 H A (c.new-ended D) (c.new-clauses D P 𝓤) tt tt tt r)))) (id⊢ 𝓤 _) $ await ! tt $ pick ! (λ r.
           split ! $ move ! (1 ∷ []) $ use1 W (raw (fact 𝓤 (P .Fresh r))) (new-said r) $ heard ! (P .Fresh r) (λ e₂. split ! $ drop ! $
           -- [what the new state owns; what the digest owns; the state's cell; the open borrow; obs; auth; _4; …]
           peeks ! (c.R D) (Is (c.R D)) (shows 𝓤 H A (c.R D)) r (w′ ∷ []) (λ is₂.
@@ -141,13 +134,13 @@ module _ (D : Declared) (L : LL.Laws D) (n : ℕ) (P : Relations (D .D)) (#finis
           keep ! (0 ∷ 1 ∷ 2 ∷ 3 ∷ []) $ by ! (exits d w r e₁ e₂))))))))))))))))
 
   module _ {M : Type 1} (𝓤 : URA M) (H : Heap 𝓤) (A : Atoms 𝓤) (W : Given 𝓤 H A) where
-    finish-walks : (C : Calls 𝓤 H) (Λ : Loops 𝓤 H) → FmC 𝓤 H (W .laws) C → Triple 𝓤 (C #finish) (Core 𝓤 H A) → Triple 𝓤 (C #new) (New 𝓤 H A)
-        → Walks 𝓤 H A (c.finish-ended D n) stayed (WpFn 𝓤 H C Λ function) (c.finish-clauses D 𝓤 n (P .Ends) (P .Digest) (P .Fresh))
-    finish-walks C Λ fm known known-new = walked 𝓤 H A (c.finish-ended D n) stayed (c.finish-clauses D 𝓤 n (P .Ends) (P .Digest) (P .Fresh)) (WpFn 𝓤 H C Λ function) (λ κs. (ptr-vals, tt)) (λ κs. (mut-tells (named 0) (κs .0) (c.R D), tt))
+    finish-walks : (C : Calls 𝓤 H) (Λ : Loops 𝓤 H) → FmC 𝓤 H (W .laws) C → Triple 𝓤 (C #finish) (c.CoreFinish D P 𝓤 H A n) → Triple 𝓤 (C #new) (c.New D P 𝓤 H A)
+        → Walks 𝓤 H A (c.finish-ended D n) stayed (WpFn 𝓤 H C Λ function) (c.finish-clauses D P 𝓤 n)
+    finish-walks C Λ fm known known-new = walked 𝓤 H A (c.finish-ended D n) stayed (c.finish-clauses D P 𝓤 n) (WpFn 𝓤 H C Λ function) (λ κs. (ptr-vals, tt)) (λ κs. (mut-tells (named 0) (κs .0) (c.R D), tt))
         (λ κs qs bounds a g are. needs 𝓤 (P .Ends (now (a .0))) _ (walk 𝓤 H A W (κs .0) (qs .0) (a .0 .ptr .0) (a .0 .ptr .1) (a .0 .name) (a .0 .now) C Λ fm known known-new))
 
-    pub finish-meets : (𝓣 : Tables 𝓤 H) → Triple 𝓤 (𝓣 .C #finish) (Core 𝓤 H A) → Triple 𝓤 (𝓣 .C #new) (New 𝓤 H A)
-        → Meets 𝓤 H A (c.finish-ended D n .signature) (WpFn 𝓤 H (𝓣 .C) (𝓣 .Λ) function) (closing 𝓤 H A (c.finish-ended D n) (c.finish-clauses D 𝓤 n (P .Ends) (P .Digest) (P .Fresh)))
+    pub finish-meets : (𝓣 : Tables 𝓤 H) → Triple 𝓤 (𝓣 .C #finish) (c.CoreFinish D P 𝓤 H A n) → Triple 𝓤 (𝓣 .C #new) (c.New D P 𝓤 H A)
+        → Meets 𝓤 H A (c.finish-ended D n .signature) (WpFn 𝓤 H (𝓣 .C) (𝓣 .Λ) function) (closing 𝓤 H A (c.finish-ended D n) (c.finish-clauses D P 𝓤 n))
     finish-meets 𝓣 known known-new =
-        walk-meets 𝓤 H A (c.finish-ended D n) stayed W (goes-ref 𝓤 H A W 1 0 tt (plain (λ _. c.R D)), tt) (c.finish-clauses D 𝓤 n (P .Ends) (P .Digest) (P .Fresh))
+        walk-meets 𝓤 H A (c.finish-ended D n) stayed W (goes-ref 𝓤 H A W 1 0 tt (plain (λ _. c.R D)), tt) (c.finish-clauses D P 𝓤 n)
         (WpFn 𝓤 H (𝓣 .C) (𝓣 .Λ) function) (WpFn-mono 𝓤 H (W .laws) 𝓣 function) (finish-walks (𝓣 .C) (𝓣 .Λ) (fmOf 𝓤 H (W .laws) 𝓣) known known-new)

@@ -37,7 +37,7 @@ use denote.Struct.Laws as LL
 use denote.Struct.Steps.{spelt}
 use denote.Triple.Entry.{onEntry}
 use denote.Triple.Spec.{Meets}
-use denote.Triple.Statement.{Contract, Triple}
+use denote.Triple.Statement.{Triple}
 use denote.Triple.Call.{calls-at}
 use denote.Triple.Clauses.{closing, ensured, lasts}
 use denote.Triple.Walked.{says, needs, Stays, stay-none-slice, walkOf, goes-none-slice, Walks, ends-at, walked, walk-meets}
@@ -83,28 +83,18 @@ module _ (D : Declared) (L : LL.Laws D) (n : ℕ) (P : Relations (D .D)) (Within
         (seq (call #finish (copy (place 8 []) ∷ []) (place 0 [])) return)))))));
   }
 
-  module _ {M : Type 1} (𝓤 : URA M) (H : Heap 𝓤) (A : Atoms 𝓤) where
-    abbrev pub New : Contract 𝓤
-    New = c.triple 𝓤 H A (c.new-ended D) (c.new-clauses D 𝓤 (P .Fresh))
-
-    abbrev pub Feed : Contract 𝓤
-    Feed = c.triple 𝓤 H A (c.feed-ended D) (c.feed-clauses D 𝓤 (P .May) (P .Fed))
-
-    abbrev pub Finish : Contract 𝓤
-    Finish = c.triple 𝓤 H A (c.finish-ended D n) (c.finish-clauses D 𝓤 n (P .Ends) (P .Digest) (P .Fresh))
-
   abbrev B : RattleType
   B = Array u8 n
 
   -- ---- the calls: what each triple binds outside, what it asks, and what is known of its result
   module _ {M : Type 1} (𝓤 : URA M) (H : Heap 𝓤) (A : Atoms 𝓤) (W : Given 𝓤 H A) where
-    abbrev to-new : New 𝓤 H A .Ghost
+    abbrev to-new : c.New D P 𝓤 H A .Ghost
     to-new = ((tt, tt, tt, tt, tt), tt)
 
-    goes-new : ent 𝓤 (⋆ 𝓤 H A (‵ ftrue ∷ [])) (New 𝓤 H A .pre to-new)
+    goes-new : ent 𝓤 (⋆ 𝓤 H A (‵ ftrue ∷ [])) (c.New D P 𝓤 H A .pre to-new)
     goes-new = qed W (‵ ftrue ∷ []) ∵ nothing ! $ join ! $ frame ! $ done !
 
-    new-said : (r : D .D) → ent 𝓤 (ensured 𝓤 H A (c.new-ended D) (c.new-clauses D 𝓤 (P .Fresh)) tt tt tt r) (fact 𝓤 (P .Fresh r))
+    new-said : (r : D .D) → ent 𝓤 (ensured 𝓤 H A (c.new-ended D) (c.new-clauses D P 𝓤) tt tt tt r) (fact 𝓤 (P .Fresh r))
     new-said r = exE 𝓤 _ (λ ws. snd∗ 𝓤 (sem 𝓤 H A (lasts (c.new-ended D) tt tt ws)) (fact 𝓤 (P .Fresh r)))
 
     -- the state r in the local at l, lent for ν under the name δ
@@ -115,10 +105,10 @@ module _ (D : Declared) (L : LL.Laws D) (n : ℕ) (P : Relations (D .D)) (Within
       abbrev Lent : Fml
       Lent = MutRef (named 0) (ν ∷ []) (c.R D) .own x (vptr l 0 ∷ [])
 
-      abbrev to-finish : Finish 𝓤 H A .Ghost
+      abbrev to-finish : c.Finish D P 𝓤 H A n .Ghost
       to-finish = (((ν ∷ [], tt), (fullShare, tt), tt, (x, tt), (vptr l 0 ∷ [], tt)), tt)
 
-      goes-finish : P .Ends r → ent 𝓤 (⋆ 𝓤 H A (‵ Lent ∷ (‵ (flft (ν ∷ []) fullShare) ⊛ ‵ ftrue) ∷ [])) (Finish 𝓤 H A .pre to-finish)
+      goes-finish : P .Ends r → ent 𝓤 (⋆ 𝓤 H A (‵ Lent ∷ (‵ (flft (ν ∷ []) fullShare) ⊛ ‵ ftrue) ∷ [])) (c.Finish D P 𝓤 H A n .pre to-finish)
       goes-finish ends = qed W (‵ Lent ∷ (‵ (flft (ν ∷ []) fullShare) ⊛ ‵ ftrue) ∷ []) ∵ says ! ends $ move ! (1 ∷ []) $ frame ! $ nothing ! $ move ! (1 ∷ 0 ∷ []) $ fjoin ! $ done !
 
       module _ (κ : Lft) (q : Share) (s : RefT (List ℕ)) where
@@ -131,10 +121,10 @@ module _ (D : Declared) (L : LL.Laws D) (n : ℕ) (P : Relations (D .D)) (Within
         abbrev tokens : Item 𝓤
         tokens = ‵ (flft (ν ∷ []) fullShare) ⊛ (‵ (flft κ q) ⊛ ‵ ftrue)
 
-        abbrev to-feed : Feed 𝓤 H A .Ghost
+        abbrev to-feed : c.Feed D P 𝓤 H A .Ghost
         to-feed = (((ν ∷ [], (κ, tt)), (fullShare, (q, tt)), tt, (x, (s, tt)), (vptr l 0 ∷ [], (v ∷ [], tt))), tt)
 
-        goes-feed : P .May r (now s) → ent 𝓤 (⋆ 𝓤 H A (‵ Lent ∷ ‵ Own ∷ tokens ∷ [])) (Feed 𝓤 H A .pre to-feed)
+        goes-feed : P .May r (now s) → ent 𝓤 (⋆ 𝓤 H A (‵ Lent ∷ ‵ Own ∷ tokens ∷ [])) (c.Feed D P 𝓤 H A .pre to-feed)
         goes-feed may = qed W (‵ Lent ∷ ‵ Own ∷ tokens ∷ []) ∵ says ! may $ move ! (2 ∷ []) $ frame ! $ nothing ! $ move ! (2 ∷ 0 ∷ []) $ fjoin ! $ move ! (1 ∷ 0 ∷ []) $ fjoin ! $ done !
 
   module _ {M : Type 1} (𝓤 : URA M) (H : Heap 𝓤) (A : Atoms 𝓤) (W : Given 𝓤 H A) (κ κ′ : Lft) (q q′ : Share) (s s′ : RefT (List ℕ)) where
@@ -165,7 +155,7 @@ module _ (D : Declared) (L : LL.Laws D) (n : ℕ) (P : Relations (D .D)) (Within
         suffices ! _ (ends-at 𝓤 H A (c.pieces-ended D n) stayed (c.pieces-clauses D 𝓤 n Within Result) W (((κ, (κ′, tt)), (q, (q′, tt)), tt, args, at), tt) w d (tt, (tt, tt)) (tt, (tt, tt))) $ says ! e $
         move ! (3 ∷ []) $ split ! $ move ! (0 ∷ 3 ∷ []) $ join ! $ frame ! $ move ! (2 ∷ 0 ∷ []) $ fjoin ! $ move ! (2 ∷ 0 ∷ []) $ fjoin ! $ done !
 
-    module _ (C : Calls 𝓤 H) (Λ : Loops 𝓤 H) (fm : FmC 𝓤 H (W .laws) C) (known-new : Triple 𝓤 (C #new) (New 𝓤 H A)) (known-feed : Triple 𝓤 (C #feed) (Feed 𝓤 H A)) (known-finish : Triple 𝓤 (C #finish) (Finish 𝓤 H A)) where
+    module _ (C : Calls 𝓤 H) (Λ : Loops 𝓤 H) (fm : FmC 𝓤 H (W .laws) C) (known-new : Triple 𝓤 (C #new) (c.New D P 𝓤 H A)) (known-feed : Triple 𝓤 (C #feed) (c.Feed D P 𝓤 H A)) (known-finish : Triple 𝓤 (C #finish) (c.Finish D P 𝓤 H A n)) where
       walk : Is (ShrSlice (named 0) κ u8) s (v₁ ∷ []) → Is (ShrSlice (named 1) κ′ u8) s′ (v₂ ∷ []) → Within (now s) (now s′)
           → ent 𝓤 (onEntry 𝓤 H A (c.pieces-ended D n .signature) (κ, (κ′, tt)) (q, (q′, tt)) args at) (WpFn 𝓤 H C Λ function (v₁ ∷ v₂ ∷ []) Post)
       walk p₁ p₂ within =
@@ -176,9 +166,9 @@ module _ (D : Declared) (L : LL.Laws D) (n : ℕ) (P : Relations (D .D)) (Within
           alloc1 ! (λ l₀. alloc1 ! (λ l₁. alloc1 ! (λ l₂. alloc1 ! (λ l₃. alloc1 ! (λ l₄. alloc1 ! (λ l₅. alloc1 ! (λ l₆. alloc1 ! (λ l₇. alloc1 ! (λ l₈. alloc0 ! $ params1 ! $
           pass1 ! (init ! 14 refl (shr-slice-lawful 𝓤 H A W (named 0) κ u8 .typed s (v₁ ∷ []) p₁ .0)) $ pass1 ! (init ! 12 refl (shr-slice-lawful 𝓤 H A W (named 1) κ′ u8 .typed s′ (v₂ ∷ []) p₂ .0)) $ pass0 ! $
           -- a new state, in _3
-          nothing ! $ use1 W (raw (New 𝓤 H A .pre (to-new 𝓤 H A W))) (goes-new 𝓤 H A W) $
-          calls-at ! fm (New 𝓤 H A) known-new (to-new 𝓤 H A W) (no-more !) (λ w.
-          use1 W (later (some (λ (r : D .D). (‵ ftrue ⊛ ‵ (c.R D .own r (w ∷ []))) ⊛ raw (ensured 𝓤 H A (c.new-ended D) (c.new-clauses D 𝓤 (P .Fresh)) tt tt tt r)))) (id⊢ 𝓤 _) $ await ! tt $ pick ! (λ r₀.
+          nothing ! $ use1 W (raw (c.New D P 𝓤 H A .pre (to-new 𝓤 H A W))) (goes-new 𝓤 H A W) $
+          calls-at ! fm (c.New D P 𝓤 H A) known-new (to-new 𝓤 H A W) (no-more !) (λ w.
+          use1 W (later (some (λ (r : D .D). (‵ ftrue ⊛ ‵ (c.R D .own r (w ∷ []))) ⊛ raw (ensured 𝓤 H A (c.new-ended D) (c.new-clauses D P 𝓤) tt tt tt r)))) (id⊢ 𝓤 _) $ await ! tt $ pick ! (λ r₀.
           split ! $ move ! (1 ∷ []) $ use1 W (raw (fact 𝓤 (P .Fresh r₀))) (new-said 𝓤 H A W r₀) $ heard ! (P .Fresh r₀) (λ e₀. split ! $ drop ! $
           peeks ! (c.R D) (Is (c.R D)) (shows 𝓤 H A (c.R D)) r₀ (w ∷ []) (λ is₀.
           land ! (from ! (stop !)) (init ! 9 refl (LL.lawful D L 𝓤 H A W .typed r₀ _ is₀ .0)) $
@@ -189,9 +179,9 @@ module _ (D : Declared) (L : LL.Laws D) (n : ℕ) (P : Relations (D .D)) (Within
           lft-new ! tt (λ ν₁. move ! (1 ∷ []) $
           use1 W (later (some (λ (δ : GName). ‵ (Lent 𝓤 H A W ν₁ l₃ δ r₀) ⊛ ‵ (flent (ν₁ ∷ []) (Body (mem (c.R D)) l₃ 0 δ))))) (lends-ref 𝓤 H A W (c.R D) (named 0) (ν₁ ∷ []) r₀ l₃ 0) $ await ! tt $ pick ! (λ δ₁. split ! $
           move ! (2 ∷ 22 ∷ []) $ join ! $ move ! (20 ∷ []) $ use1 W (‵ Own₁ ⊛ ‵ Own₁) (shr-slice-copy 𝓤 H A W (named 0) κ u8 .twice s (v₁ ∷ [])) $ split ! $
-          move ! (3 ∷ 0 ∷ 2 ∷ []) $ use3 W (raw (Feed 𝓤 H A .pre (to-feed 𝓤 H A W ν₁ l₃ δ₁ r₀ κ q s))) (goes-feed 𝓤 H A W ν₁ l₃ δ₁ r₀ κ q s (J .first (now s) (now s′) r₀ within e₀)) $
-          calls-at ! fm (Feed 𝓤 H A) known-feed (to-feed 𝓤 H A W ν₁ l₃ δ₁ r₀ κ q s) (and-then ! (load ! (from ! (stop !)) (look ! 7 refl)) (and-then ! (load ! (from ! (stop !)) (look ! 16 refl)) (no-more !))) (λ u₁.
-          use1 W (later (some (λ (t : Unit {0}). (tokens 𝓤 H A W ν₁ l₃ δ₁ r₀ κ q s ⊛ ‵ (unit .own t (u₁ ∷ []))) ⊛ raw (ensured 𝓤 H A (c.feed-ended D) (c.feed-clauses D 𝓤 (P .May) (P .Fed)) (ν₁ ∷ [], (κ, tt)) (x 𝓤 H A W ν₁ l₃ δ₁ r₀, (s, tt)) tt t)))) (id⊢ 𝓤 _) $ await ! tt $ pick ! (λ t₁.
+          move ! (3 ∷ 0 ∷ 2 ∷ []) $ use3 W (raw (c.Feed D P 𝓤 H A .pre (to-feed 𝓤 H A W ν₁ l₃ δ₁ r₀ κ q s))) (goes-feed 𝓤 H A W ν₁ l₃ δ₁ r₀ κ q s (J .first (now s) (now s′) r₀ within e₀)) $
+          calls-at ! fm (c.Feed D P 𝓤 H A) known-feed (to-feed 𝓤 H A W ν₁ l₃ δ₁ r₀ κ q s) (and-then ! (load ! (from ! (stop !)) (look ! 7 refl)) (and-then ! (load ! (from ! (stop !)) (look ! 16 refl)) (no-more !))) (λ u₁.
+          use1 W (later (some (λ (t : Unit {0}). (tokens 𝓤 H A W ν₁ l₃ δ₁ r₀ κ q s ⊛ ‵ (unit .own t (u₁ ∷ []))) ⊛ raw (ensured 𝓤 H A (c.feed-ended D) (c.feed-clauses D P 𝓤) (ν₁ ∷ [], (κ, tt)) (x 𝓤 H A W ν₁ l₃ δ₁ r₀, (s, tt)) tt t)))) (id⊢ 𝓤 _) $ await ! tt $ pick ! (λ t₁.
           split ! $ move ! (1 ∷ []) $ use1 W (some (λ (z : D .D × (Unit {0} × Unit {0})). ‵ (lasts (c.feed-ended D) (ν₁ ∷ [], (κ, tt)) (x 𝓤 H A W ν₁ l₃ δ₁ r₀, (s, tt)) z) ⊛ raw (fact 𝓤 (P .Fed r₀ (now s) (z .0))))) (id⊢ 𝓤 _) $ pick ! (λ z₁.
           split ! $ move ! (1 ∷ []) $ heard ! (P .Fed r₀ (now s) (z₁ .0)) (λ e₁. fsplit ! $ move ! (1 ∷ []) $ drop ! $ move ! (1 ∷ []) $ split ! $ move ! (1 ∷ []) $ feqL ! (λ o₁.
           -- [the tokens; the state's last value; the first piece; the loan; _8; …]
@@ -202,9 +192,9 @@ module _ (D : Declared) (L : LL.Laws D) (n : ℕ) (P : Relations (D .D)) (Within
           lft-new ! tt (λ ν₂. move ! (1 ∷ []) $
           use1 W (later (some (λ (δ : GName). ‵ (Lent 𝓤 H A W ν₂ l₃ δ (z₁ .0)) ⊛ ‵ (flent (ν₂ ∷ []) (Body (mem (c.R D)) l₃ 0 δ))))) (lends-ref 𝓤 H A W (c.R D) (named 0) (ν₂ ∷ []) (z₁ .0) l₃ 0) $ await ! tt $ pick ! (λ δ₂. split ! $
           move ! (2 ∷ 23 ∷ []) $ join ! $ move ! (22 ∷ []) $ use1 W (‵ Own₂ ⊛ ‵ Own₂) (shr-slice-copy 𝓤 H A W (named 1) κ′ u8 .twice s′ (v₂ ∷ [])) $ split ! $
-          move ! (3 ∷ 0 ∷ 2 ∷ []) $ use3 W (raw (Feed 𝓤 H A .pre (to-feed 𝓤 H A W ν₂ l₃ δ₂ (z₁ .0) κ′ q′ s′))) (goes-feed 𝓤 H A W ν₂ l₃ δ₂ (z₁ .0) κ′ q′ s′ (J .second (now s) (now s′) r₀ (z₁ .0) within e₀ e₁)) $
-          calls-at ! fm (Feed 𝓤 H A) known-feed (to-feed 𝓤 H A W ν₂ l₃ δ₂ (z₁ .0) κ′ q′ s′) (and-then ! (load ! (from ! (stop !)) (look ! 7 refl)) (and-then ! (load ! (from ! (stop !)) (look ! 16 refl)) (no-more !))) (λ u₂.
-          use1 W (later (some (λ (t : Unit {0}). (tokens 𝓤 H A W ν₂ l₃ δ₂ (z₁ .0) κ′ q′ s′ ⊛ ‵ (unit .own t (u₂ ∷ []))) ⊛ raw (ensured 𝓤 H A (c.feed-ended D) (c.feed-clauses D 𝓤 (P .May) (P .Fed)) (ν₂ ∷ [], (κ′, tt)) (x 𝓤 H A W ν₂ l₃ δ₂ (z₁ .0), (s′, tt)) tt t)))) (id⊢ 𝓤 _) $ await ! tt $ pick ! (λ t₂.
+          move ! (3 ∷ 0 ∷ 2 ∷ []) $ use3 W (raw (c.Feed D P 𝓤 H A .pre (to-feed 𝓤 H A W ν₂ l₃ δ₂ (z₁ .0) κ′ q′ s′))) (goes-feed 𝓤 H A W ν₂ l₃ δ₂ (z₁ .0) κ′ q′ s′ (J .second (now s) (now s′) r₀ (z₁ .0) within e₀ e₁)) $
+          calls-at ! fm (c.Feed D P 𝓤 H A) known-feed (to-feed 𝓤 H A W ν₂ l₃ δ₂ (z₁ .0) κ′ q′ s′) (and-then ! (load ! (from ! (stop !)) (look ! 7 refl)) (and-then ! (load ! (from ! (stop !)) (look ! 16 refl)) (no-more !))) (λ u₂.
+          use1 W (later (some (λ (t : Unit {0}). (tokens 𝓤 H A W ν₂ l₃ δ₂ (z₁ .0) κ′ q′ s′ ⊛ ‵ (unit .own t (u₂ ∷ []))) ⊛ raw (ensured 𝓤 H A (c.feed-ended D) (c.feed-clauses D P 𝓤) (ν₂ ∷ [], (κ′, tt)) (x 𝓤 H A W ν₂ l₃ δ₂ (z₁ .0), (s′, tt)) tt t)))) (id⊢ 𝓤 _) $ await ! tt $ pick ! (λ t₂.
           split ! $ move ! (1 ∷ []) $ use1 W (some (λ (z : D .D × (Unit {0} × Unit {0})). ‵ (lasts (c.feed-ended D) (ν₂ ∷ [], (κ′, tt)) (x 𝓤 H A W ν₂ l₃ δ₂ (z₁ .0), (s′, tt)) z) ⊛ raw (fact 𝓤 (P .Fed (z₁ .0) (now s′) (z .0))))) (id⊢ 𝓤 _) $ pick ! (λ z₂.
           split ! $ move ! (1 ∷ []) $ heard ! (P .Fed (z₁ .0) (now s′) (z₂ .0)) (λ e₂. fsplit ! $ move ! (1 ∷ []) $ drop ! $ move ! (1 ∷ []) $ split ! $ move ! (1 ∷ []) $ feqL ! (λ o₂.
           land ! (from ! (stop !)) (store ! 12 refl (subst (λ (y : Val). Holds (hasTy tyUnit y) × WT y) (sym (ap only o₂)) (tt, tt))) $
@@ -213,9 +203,9 @@ module _ (D : Declared) (L : LL.Laws D) (n : ℕ) (P : Relations (D .D)) (Within
           assigns ! (addr ! (from ! (stop !))) (from ! (stop !)) (init ! 5 refl (tt, tt)) $
           lft-new ! tt (λ ν₃. move ! (1 ∷ []) $
           use1 W (later (some (λ (δ : GName). ‵ (Lent 𝓤 H A W ν₃ l₃ δ (z₂ .0)) ⊛ ‵ (flent (ν₃ ∷ []) (Body (mem (c.R D)) l₃ 0 δ))))) (lends-ref 𝓤 H A W (c.R D) (named 0) (ν₃ ∷ []) (z₂ .0) l₃ 0) $ await ! tt $ pick ! (λ δ₃. split ! $
-          nothing ! $ move ! (3 ∷ 0 ∷ []) $ join ! $ move ! (1 ∷ 0 ∷ []) $ use2 W (raw (Finish 𝓤 H A .pre (to-finish 𝓤 H A W ν₃ l₃ δ₃ (z₂ .0)))) (goes-finish 𝓤 H A W ν₃ l₃ δ₃ (z₂ .0) (J .end (now s) (now s′) r₀ (z₁ .0) (z₂ .0) within e₀ e₁ e₂)) $
-          calls-at ! fm (Finish 𝓤 H A) known-finish (to-finish 𝓤 H A W ν₃ l₃ δ₃ (z₂ .0)) (and-then ! (load ! (from ! (stop !)) (look ! 6 refl)) (no-more !)) (λ w₃.
-          use1 W (later (some (λ (d : List ℕ). ((‵ (flft (ν₃ ∷ []) fullShare) ⊛ ‵ ftrue) ⊛ ‵ (B .own d (w₃ ∷ []))) ⊛ raw (ensured 𝓤 H A (c.finish-ended D n) (c.finish-clauses D 𝓤 n (P .Ends) (P .Digest) (P .Fresh)) (ν₃ ∷ [], tt) (x 𝓤 H A W ν₃ l₃ δ₃ (z₂ .0), tt) tt d)))) (id⊢ 𝓤 _) $ await ! tt $ pick ! (λ d.
+          nothing ! $ move ! (3 ∷ 0 ∷ []) $ join ! $ move ! (1 ∷ 0 ∷ []) $ use2 W (raw (c.Finish D P 𝓤 H A n .pre (to-finish 𝓤 H A W ν₃ l₃ δ₃ (z₂ .0)))) (goes-finish 𝓤 H A W ν₃ l₃ δ₃ (z₂ .0) (J .end (now s) (now s′) r₀ (z₁ .0) (z₂ .0) within e₀ e₁ e₂)) $
+          calls-at ! fm (c.Finish D P 𝓤 H A n) known-finish (to-finish 𝓤 H A W ν₃ l₃ δ₃ (z₂ .0)) (and-then ! (load ! (from ! (stop !)) (look ! 6 refl)) (no-more !)) (λ w₃.
+          use1 W (later (some (λ (d : List ℕ). ((‵ (flft (ν₃ ∷ []) fullShare) ⊛ ‵ ftrue) ⊛ ‵ (B .own d (w₃ ∷ []))) ⊛ raw (ensured 𝓤 H A (c.finish-ended D n) (c.finish-clauses D P 𝓤 n) (ν₃ ∷ [], tt) (x 𝓤 H A W ν₃ l₃ δ₃ (z₂ .0), tt) tt d)))) (id⊢ 𝓤 _) $ await ! tt $ pick ! (λ d.
           split ! $ move ! (1 ∷ []) $ use1 W (some (λ (z : D .D × Unit {0}). ‵ (lasts (c.finish-ended D n) (ν₃ ∷ [], tt) (x 𝓤 H A W ν₃ l₃ δ₃ (z₂ .0), tt) z) ⊛ raw (fact 𝓤 (P .Digest (z₂ .0) d × P .Fresh (z .0))))) (id⊢ 𝓤 _) $ pick ! (λ z₃.
           split ! $ move ! (1 ∷ []) $ heard ! (P .Digest (z₂ .0) d × P .Fresh (z₃ .0)) (λ e₃. fsplit ! $ move ! (1 ∷ []) $ drop ! $ move ! (1 ∷ []) $ split ! $ move ! (1 ∷ []) $
           -- [what the digest owns; the loan's token; the state's last value; the loan; the second token; the second piece; the first token; the first piece; _8; …]
@@ -229,13 +219,13 @@ module _ (D : Declared) (L : LL.Laws D) (n : ℕ) (P : Relations (D .D)) (Within
           keep ! (2 ∷ 3 ∷ 4 ∷ 5 ∷ 6 ∷ []) $ by ! (exits d w₃ (J .whole (now s) (now s′) d r₀ (z₁ .0) (z₂ .0) e₀ e₁ e₂ (e₃ .0)))))))))))))))))))))))))))))))))))))
 
   module _ {M : Type 1} (𝓤 : URA M) (H : Heap 𝓤) (A : Atoms 𝓤) (W : Given 𝓤 H A) where
-    pieces-walks : (C : Calls 𝓤 H) (Λ : Loops 𝓤 H) → FmC 𝓤 H (W .laws) C → Triple 𝓤 (C #new) (New 𝓤 H A) → Triple 𝓤 (C #feed) (Feed 𝓤 H A) → Triple 𝓤 (C #finish) (Finish 𝓤 H A)
+    pieces-walks : (C : Calls 𝓤 H) (Λ : Loops 𝓤 H) → FmC 𝓤 H (W .laws) C → Triple 𝓤 (C #new) (c.New D P 𝓤 H A) → Triple 𝓤 (C #feed) (c.Feed D P 𝓤 H A) → Triple 𝓤 (C #finish) (c.Finish D P 𝓤 H A n)
         → Walks 𝓤 H A (c.pieces-ended D n) stayed (WpFn 𝓤 H C Λ function) (c.pieces-clauses D 𝓤 n Within Result)
     pieces-walks C Λ fm known-new known-feed known-finish = walked 𝓤 H A (c.pieces-ended D n) stayed (c.pieces-clauses D 𝓤 n Within Result) (WpFn 𝓤 H C Λ function)
         (λ κs. (slice-vals, (slice-vals, tt))) (λ κs. (shr-slice-tells (named 0) (κs .0) u8, (shr-slice-tells (named 1) (κs .1 .0) u8, tt)))
         (λ κs qs bounds a g are. needs 𝓤 (Within (now (a .0)) (now (a .1 .0))) _ (walk 𝓤 H A W (κs .0) (κs .1 .0) (qs .0) (qs .1 .0) (a .0) (a .1 .0) C Λ fm known-new known-feed known-finish (are .0) (are .1 .0)))
 
-    pub pieces-meets : (𝓣 : Tables 𝓤 H) → Triple 𝓤 (𝓣 .C #new) (New 𝓤 H A) → Triple 𝓤 (𝓣 .C #feed) (Feed 𝓤 H A) → Triple 𝓤 (𝓣 .C #finish) (Finish 𝓤 H A)
+    pub pieces-meets : (𝓣 : Tables 𝓤 H) → Triple 𝓤 (𝓣 .C #new) (c.New D P 𝓤 H A) → Triple 𝓤 (𝓣 .C #feed) (c.Feed D P 𝓤 H A) → Triple 𝓤 (𝓣 .C #finish) (c.Finish D P 𝓤 H A n)
         → Meets 𝓤 H A (c.pieces-ended D n .signature) (WpFn 𝓤 H (𝓣 .C) (𝓣 .Λ) function) (closing 𝓤 H A (c.pieces-ended D n) (c.pieces-clauses D 𝓤 n Within Result))
     pieces-meets 𝓣 known-new known-feed known-finish =
         walk-meets 𝓤 H A (c.pieces-ended D n) stayed W (goes-none-slice 𝓤 H A W 2 (0 ∷ []) tt (plain (λ _. u8)) yes, (goes-none-slice 𝓤 H A W 2 (1 ∷ []) tt (plain (λ _. u8)) yes, tt)) (c.pieces-clauses D 𝓤 n Within Result)

@@ -7,8 +7,9 @@ use Rattle.header.proofs.Ctr.Laws as Q′
 use Rattle.header.specs.Answers.{readCtr}
 use Rattle.header.specs.Header.{readHeader}
 use Rattle.header.specs.declared.Ctr.{Ctr}
-use Rattle.frame.proofs.Numbers.{Shown}
-use Rattle.frame.proofs.Whole.{New, Show, number, whole-meets}
+use Rattle.frame.proofs.Contracts.{New, Show}
+use Rattle.frame.proofs.Numbers.{res, Shown}
+use Rattle.frame.proofs.Whole.{number, whole-meets}
 use Rattle.frame.proofs.FrameReader.new.Symbol as new
 use Rattle.frame.proofs.FrameReader.new.Met as new-thm
 use Rattle.frame.proofs.FrameReader.ctr.Symbol as ctr
@@ -24,5 +25,5 @@ ctr-of-spec 𝓤 H 𝓜 𝓖 𝓡 =
     entered 𝓤 H (tripleOf 𝓤 H (𝓖 .A) it.signature (it.spec 𝓤 H (𝓖 .A) (𝓜 .mem) (𝓡 .run)))
     (tables 𝓤 H 𝓜 𝓡 code.env .C) (tables 𝓤 H 𝓜 𝓡 code.env .Λ) #it code.function (code.unfolded 𝓤 H 𝓜 𝓡)
     (whole-meets (number Q.the-type Q′.the-laws) (Shown Q.the-type (λ d. d .ctr)) (λ κs l r. r .0 ≡ readCtr (readHeader l)) (λ κs s d r m e. ap (λ (x : Ctr). x .0) e ∙ m .1) new.name ctr.name 𝓤 H (𝓖 .A) (givenOf 𝓤 H 𝓜 𝓖) (tablesOf 𝓤 H 𝓜 (tables 𝓤 H 𝓜 𝓡 code.env))
-    (cited 𝓤 H (New (number Q.the-type Q′.the-laws) (Shown Q.the-type (λ d. d .ctr)) (λ κs l r. r .0 ≡ readCtr (readHeader l)) (λ κs s d r m e. ap (λ (x : Ctr). x .0) e ∙ m .1) new.name ctr.name 𝓤 H (𝓖 .A)) 𝓜 𝓡 code.env new.name new.routine code.calls-frame·FrameReader·new (new-thm.met 𝓤 H 𝓜 𝓖 𝓡))
-    (cited 𝓤 H (Show (number Q.the-type Q′.the-laws) (Shown Q.the-type (λ d. d .ctr)) (λ κs l r. r .0 ≡ readCtr (readHeader l)) (λ κs s d r m e. ap (λ (x : Ctr). x .0) e ∙ m .1) new.name ctr.name 𝓤 H (𝓖 .A)) 𝓜 𝓡 code.env ctr.name ctr.routine code.calls-frame·FrameReader·ctr (ctr-thm.met 𝓤 H 𝓜 𝓖 𝓡)))
+    (cited 𝓤 H (New 𝓤 H (𝓖 .A)) 𝓜 𝓡 code.env new.name new.routine code.calls-frame·FrameReader·new (new-thm.met 𝓤 H 𝓜 𝓖 𝓡))
+    (cited 𝓤 H (Show 𝓤 H (𝓖 .A) (res Q.the-type (λ d. d .ctr)) (Shown Q.the-type (λ d. d .ctr))) 𝓜 𝓡 code.env ctr.name ctr.routine code.calls-frame·FrameReader·ctr (ctr-thm.met 𝓤 H 𝓜 𝓖 𝓡)))
