@@ -104,13 +104,13 @@ module _ (D : Declared) where
     core-feed-clauses κs a = record { ghost = Unit {0}; requires = λ _. fact 𝓤 (P .May (a .0) (now (a .1 .0))); ensures = λ _ r _. fact 𝓤 (P .Fed (a .0) (now (a .1 .0)) r) }
 
     abbrev pub feed-clauses : Clauses 𝓤 feed-ended
-    feed-clauses κs a = record { ghost = Unit {0}; requires = λ _. fact 𝓤 (P .May (now (a .0)) (now (a .1 .0))); ensures = λ _ _ e. fact 𝓤 (P .Fed (now (a .0)) (now (a .1 .0)) (now (e .0))) }
+    feed-clauses κs a = record { ghost = Unit {0}; requires = λ _. fact 𝓤 (P .May (now (a .0)) (now (a .1 .0))); ensures = λ _ _ e. fact 𝓤 (P .Grown (now (a .0)) (now (a .1 .0)) (now (e .0))) }
 
     abbrev pub core-finish-clauses : (n : ℕ) → Clauses 𝓤 (core-finish-ended n)
     core-finish-clauses n κs a = record { ghost = Unit {0}; requires = λ _. fact 𝓤 (P .Ends (a .0)); ensures = λ _ r _. fact 𝓤 (P .Digest (a .0) r) }
 
     abbrev pub finish-clauses : (n : ℕ) → Clauses 𝓤 (finish-ended n)
-    finish-clauses n κs a = record { ghost = Unit {0}; requires = λ _. fact 𝓤 (P .Ends (now (a .0))); ensures = λ _ r e. fact 𝓤 (P .Digest (now (a .0)) r × P .Fresh (now (e .0))) }
+    finish-clauses n κs a = record { ghost = Unit {0}; requires = λ _. fact 𝓤 (P .Ends (now (a .0))); ensures = λ _ r e. fact 𝓤 (P .Finished (now (a .0)) r (now (e .0))) }
 
     -- ---- the contracts as triples
     module _ (H : Heap 𝓤) (A : Atoms 𝓤) where

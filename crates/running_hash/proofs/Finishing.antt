@@ -94,7 +94,7 @@ module _ (D : Declared) (L : LL.Laws D) (n : ℕ) (P : Relations (D .D)) (#finis
         → ent 𝓤 (⋆ 𝓤 H A (‵ (fobs γ (c.R D .coded .code r)) ∷ ‵ (fbor κ (Body (mem (c.R D)) b o γ)) ∷ ‵ (flft κ q) ∷ ‵ (B .own d (w ∷ [])) ∷ [])) (Post w)
     exits d w r e₁ e₂ =
         qed W (‵ (fobs γ (c.R D .coded .code r)) ∷ ‵ (fbor κ (Body (mem (c.R D)) b o γ)) ∷ ‵ (flft κ q) ∷ ‵ (B .own d (w ∷ [])) ∷ []) ∵
-        suffices ! _ (ends-at 𝓤 H A (c.finish-ended D n) stayed (c.finish-clauses D P 𝓤 n) W (((κ, tt), (q, tt), tt, x, (vptr b o ∷ [], tt)), tt) w d (r, tt) (tt, tt)) $ says ! (e₁, e₂) $
+        suffices ! _ (ends-at 𝓤 H A (c.finish-ended D n) stayed (c.finish-clauses D P 𝓤 n) W (((κ, tt), (q, tt), tt, x, (vptr b o ∷ [], tt)), tt) w d (r, tt) (tt, tt)) $ says ! (P .finishes h d r e₁ e₂) $
         nothing ! $ move ! (3 ∷ 0 ∷ []) $ join ! $ frame ! $ feqI ! (List Val) (vptr b o ∷ []) (vptr b o ∷ []) refl $ fjoin3 ! $ nothing ! $ move ! (1 ∷ 0 ∷ []) $ fjoin ! $ done !
 
     module _ (C : Calls 𝓤 H) (Λ : Loops 𝓤 H) (fm : FmC 𝓤 H (W .laws) C) (known : Triple 𝓤 (C #finish) (c.CoreFinish D P 𝓤 H A n)) (known-new : Triple 𝓤 (C #new) (c.New D P 𝓤 H A)) where

@@ -182,8 +182,8 @@ module _ (D : Declared) (L : LL.Laws D) (n : ℕ) (P : Relations (D .D)) (Within
           move ! (3 ∷ 0 ∷ 2 ∷ []) $ use3 W (raw (c.Feed D P 𝓤 H A .pre (to-feed 𝓤 H A W ν₁ l₃ δ₁ r₀ κ q s))) (goes-feed 𝓤 H A W ν₁ l₃ δ₁ r₀ κ q s (J .first (now s) (now s′) r₀ within e₀)) $
           calls-at ! fm (c.Feed D P 𝓤 H A) known-feed (to-feed 𝓤 H A W ν₁ l₃ δ₁ r₀ κ q s) (and-then ! (load ! (from ! (stop !)) (look ! 7 refl)) (and-then ! (load ! (from ! (stop !)) (look ! 16 refl)) (no-more !))) (λ u₁.
           use1 W (later (some (λ (t : Unit {0}). (tokens 𝓤 H A W ν₁ l₃ δ₁ r₀ κ q s ⊛ ‵ (unit .own t (u₁ ∷ []))) ⊛ raw (ensured 𝓤 H A (c.feed-ended D) (c.feed-clauses D P 𝓤) (ν₁ ∷ [], (κ, tt)) (x 𝓤 H A W ν₁ l₃ δ₁ r₀, (s, tt)) tt t)))) (id⊢ 𝓤 _) $ await ! tt $ pick ! (λ t₁.
-          split ! $ move ! (1 ∷ []) $ use1 W (some (λ (z : D .D × (Unit {0} × Unit {0})). ‵ (lasts (c.feed-ended D) (ν₁ ∷ [], (κ, tt)) (x 𝓤 H A W ν₁ l₃ δ₁ r₀, (s, tt)) z) ⊛ raw (fact 𝓤 (P .Fed r₀ (now s) (z .0))))) (id⊢ 𝓤 _) $ pick ! (λ z₁.
-          split ! $ move ! (1 ∷ []) $ heard ! (P .Fed r₀ (now s) (z₁ .0)) (λ e₁. fsplit ! $ move ! (1 ∷ []) $ drop ! $ move ! (1 ∷ []) $ split ! $ move ! (1 ∷ []) $ feqL ! (λ o₁.
+          split ! $ move ! (1 ∷ []) $ use1 W (some (λ (z : D .D × (Unit {0} × Unit {0})). ‵ (lasts (c.feed-ended D) (ν₁ ∷ [], (κ, tt)) (x 𝓤 H A W ν₁ l₃ δ₁ r₀, (s, tt)) z) ⊛ raw (fact 𝓤 (P .Grown r₀ (now s) (z .0))))) (id⊢ 𝓤 _) $ pick ! (λ z₁.
+          split ! $ move ! (1 ∷ []) $ heard ! (P .Grown r₀ (now s) (z₁ .0)) (λ e₁. fsplit ! $ move ! (1 ∷ []) $ drop ! $ move ! (1 ∷ []) $ split ! $ move ! (1 ∷ []) $ feqL ! (λ o₁.
           -- [the tokens; the state's last value; the first piece; the loan; _8; …]
           land ! (from ! (stop !)) (init ! 10 refl (subst (λ (y : Val). Holds (hasTy tyUnit y) × WT y) (sym (ap only o₁)) (tt, tt))) $
           split ! $ lft-end ! tt $ move ! (0 ∷ 4 ∷ 2 ∷ []) $ use3 W (later (‵ (mem (c.R D) .lies (z₁ .0) l₃ 0))) (ref-back 𝓤 H A W (c.R D) (ν₁ ∷ []) δ₁ (z₁ .0) l₃ 0) $ await ! tt $
@@ -195,8 +195,8 @@ module _ (D : Declared) (L : LL.Laws D) (n : ℕ) (P : Relations (D .D)) (Within
           move ! (3 ∷ 0 ∷ 2 ∷ []) $ use3 W (raw (c.Feed D P 𝓤 H A .pre (to-feed 𝓤 H A W ν₂ l₃ δ₂ (z₁ .0) κ′ q′ s′))) (goes-feed 𝓤 H A W ν₂ l₃ δ₂ (z₁ .0) κ′ q′ s′ (J .second (now s) (now s′) r₀ (z₁ .0) within e₀ e₁)) $
           calls-at ! fm (c.Feed D P 𝓤 H A) known-feed (to-feed 𝓤 H A W ν₂ l₃ δ₂ (z₁ .0) κ′ q′ s′) (and-then ! (load ! (from ! (stop !)) (look ! 7 refl)) (and-then ! (load ! (from ! (stop !)) (look ! 16 refl)) (no-more !))) (λ u₂.
           use1 W (later (some (λ (t : Unit {0}). (tokens 𝓤 H A W ν₂ l₃ δ₂ (z₁ .0) κ′ q′ s′ ⊛ ‵ (unit .own t (u₂ ∷ []))) ⊛ raw (ensured 𝓤 H A (c.feed-ended D) (c.feed-clauses D P 𝓤) (ν₂ ∷ [], (κ′, tt)) (x 𝓤 H A W ν₂ l₃ δ₂ (z₁ .0), (s′, tt)) tt t)))) (id⊢ 𝓤 _) $ await ! tt $ pick ! (λ t₂.
-          split ! $ move ! (1 ∷ []) $ use1 W (some (λ (z : D .D × (Unit {0} × Unit {0})). ‵ (lasts (c.feed-ended D) (ν₂ ∷ [], (κ′, tt)) (x 𝓤 H A W ν₂ l₃ δ₂ (z₁ .0), (s′, tt)) z) ⊛ raw (fact 𝓤 (P .Fed (z₁ .0) (now s′) (z .0))))) (id⊢ 𝓤 _) $ pick ! (λ z₂.
-          split ! $ move ! (1 ∷ []) $ heard ! (P .Fed (z₁ .0) (now s′) (z₂ .0)) (λ e₂. fsplit ! $ move ! (1 ∷ []) $ drop ! $ move ! (1 ∷ []) $ split ! $ move ! (1 ∷ []) $ feqL ! (λ o₂.
+          split ! $ move ! (1 ∷ []) $ use1 W (some (λ (z : D .D × (Unit {0} × Unit {0})). ‵ (lasts (c.feed-ended D) (ν₂ ∷ [], (κ′, tt)) (x 𝓤 H A W ν₂ l₃ δ₂ (z₁ .0), (s′, tt)) z) ⊛ raw (fact 𝓤 (P .Grown (z₁ .0) (now s′) (z .0))))) (id⊢ 𝓤 _) $ pick ! (λ z₂.
+          split ! $ move ! (1 ∷ []) $ heard ! (P .Grown (z₁ .0) (now s′) (z₂ .0)) (λ e₂. fsplit ! $ move ! (1 ∷ []) $ drop ! $ move ! (1 ∷ []) $ split ! $ move ! (1 ∷ []) $ feqL ! (λ o₂.
           land ! (from ! (stop !)) (store ! 12 refl (subst (λ (y : Val). Holds (hasTy tyUnit y) × WT y) (sym (ap only o₂)) (tt, tt))) $
           split ! $ lft-end ! tt $ move ! (0 ∷ 4 ∷ 2 ∷ []) $ use3 W (later (‵ (mem (c.R D) .lies (z₂ .0) l₃ 0))) (ref-back 𝓤 H A W (c.R D) (ν₂ ∷ []) δ₂ (z₂ .0) l₃ 0) $ await ! tt $
           -- the third loan: [the state; the second token; the second piece; the first token; the first piece; _8; …]
@@ -206,8 +206,8 @@ module _ (D : Declared) (L : LL.Laws D) (n : ℕ) (P : Relations (D .D)) (Within
           nothing ! $ move ! (3 ∷ 0 ∷ []) $ join ! $ move ! (1 ∷ 0 ∷ []) $ use2 W (raw (c.Finish D P 𝓤 H A n .pre (to-finish 𝓤 H A W ν₃ l₃ δ₃ (z₂ .0)))) (goes-finish 𝓤 H A W ν₃ l₃ δ₃ (z₂ .0) (J .end (now s) (now s′) r₀ (z₁ .0) (z₂ .0) within e₀ e₁ e₂)) $
           calls-at ! fm (c.Finish D P 𝓤 H A n) known-finish (to-finish 𝓤 H A W ν₃ l₃ δ₃ (z₂ .0)) (and-then ! (load ! (from ! (stop !)) (look ! 6 refl)) (no-more !)) (λ w₃.
           use1 W (later (some (λ (d : List ℕ). ((‵ (flft (ν₃ ∷ []) fullShare) ⊛ ‵ ftrue) ⊛ ‵ (B .own d (w₃ ∷ []))) ⊛ raw (ensured 𝓤 H A (c.finish-ended D n) (c.finish-clauses D P 𝓤 n) (ν₃ ∷ [], tt) (x 𝓤 H A W ν₃ l₃ δ₃ (z₂ .0), tt) tt d)))) (id⊢ 𝓤 _) $ await ! tt $ pick ! (λ d.
-          split ! $ move ! (1 ∷ []) $ use1 W (some (λ (z : D .D × Unit {0}). ‵ (lasts (c.finish-ended D n) (ν₃ ∷ [], tt) (x 𝓤 H A W ν₃ l₃ δ₃ (z₂ .0), tt) z) ⊛ raw (fact 𝓤 (P .Digest (z₂ .0) d × P .Fresh (z .0))))) (id⊢ 𝓤 _) $ pick ! (λ z₃.
-          split ! $ move ! (1 ∷ []) $ heard ! (P .Digest (z₂ .0) d × P .Fresh (z₃ .0)) (λ e₃. fsplit ! $ move ! (1 ∷ []) $ drop ! $ move ! (1 ∷ []) $ split ! $ move ! (1 ∷ []) $
+          split ! $ move ! (1 ∷ []) $ use1 W (some (λ (z : D .D × Unit {0}). ‵ (lasts (c.finish-ended D n) (ν₃ ∷ [], tt) (x 𝓤 H A W ν₃ l₃ δ₃ (z₂ .0), tt) z) ⊛ raw (fact 𝓤 (P .Finished (z₂ .0) d (z .0))))) (id⊢ 𝓤 _) $ pick ! (λ z₃.
+          split ! $ move ! (1 ∷ []) $ heard ! (P .Finished (z₂ .0) d (z₃ .0)) (λ e₃. fsplit ! $ move ! (1 ∷ []) $ drop ! $ move ! (1 ∷ []) $ split ! $ move ! (1 ∷ []) $
           -- [what the digest owns; the loan's token; the state's last value; the loan; the second token; the second piece; the first token; the first piece; _8; …]
           peeks ! B (Is B) (shows 𝓤 H A B) d (w₃ ∷ []) (λ is₃.
           land ! (from ! (stop !)) (init ! 23 refl (array-lawful 𝓤 H A W u8 (uint-lawful 𝓤 H A W w8) n .typed d _ is₃ .0)) $
@@ -216,7 +216,7 @@ module _ (D : Declared) (L : LL.Laws D) (n : ℕ) (P : Relations (D .D)) (Within
           -- [_3; what it owns; true; what the digest owns; the second token; the second piece; the first token; the first piece; _8; …]
           returns ! (look ! 23 refl) $ forget ! 0 refl $ forget ! 8 refl $ forget ! 10 refl $ forget ! 12 refl $ forget ! 14 refl $ forget ! 16 refl $ forget ! 19 refl $ forget ! 21 refl $ forget ! 23 refl $
           move ! (23 ∷ 24 ∷ []) $ free1 ! $ move ! (21 ∷ 22 ∷ []) $ free1 ! $ move ! (19 ∷ 20 ∷ []) $ free1 ! $ move ! (0 ∷ 18 ∷ []) $ free1 ! $ move ! (15 ∷ 16 ∷ []) $ free1 ! $ move ! (13 ∷ 14 ∷ []) $ free1 ! $ move ! (11 ∷ 12 ∷ []) $ free1 ! $ move ! (9 ∷ 10 ∷ []) $ free1 ! $ move ! (7 ∷ 8 ∷ []) $ free1 ! $ free0 ! $
-          keep ! (2 ∷ 3 ∷ 4 ∷ 5 ∷ 6 ∷ []) $ by ! (exits d w₃ (J .whole (now s) (now s′) d r₀ (z₁ .0) (z₂ .0) e₀ e₁ e₂ (e₃ .0)))))))))))))))))))))))))))))))))))))
+          keep ! (2 ∷ 3 ∷ 4 ∷ 5 ∷ 6 ∷ []) $ by ! (exits d w₃ (J .whole (now s) (now s′) d r₀ (z₁ .0) (z₂ .0) (z₃ .0) e₀ e₁ e₂ e₃))))))))))))))))))))))))))))))))))))
 
   module _ {M : Type 1} (𝓤 : URA M) (H : Heap 𝓤) (A : Atoms 𝓤) (W : Given 𝓤 H A) where
     pieces-walks : (C : Calls 𝓤 H) (Λ : Loops 𝓤 H) → FmC 𝓤 H (W .laws) C → Triple 𝓤 (C #new) (c.New D P 𝓤 H A) → Triple 𝓤 (C #feed) (c.Feed D P 𝓤 H A) → Triple 𝓤 (C #finish) (c.Finish D P 𝓤 H A n)

@@ -1,7 +1,6 @@
 use contract.Running.{givenOf, tables, tablesOf}
 use denote.Triple.Spec.{tripleOf}
 use denote.Triple.Table.{entered, cited}
-use Rattle.sha2.specs.Sha2.{hash}
 use Rattle.sha2.specs.Sizes.{sha512}
 use Rattle.sha2.proofs.sha512.Sha512 as T
 use Rattle.sha2.proofs.sha512.Sha512.Laws as T′
@@ -24,7 +23,7 @@ unfolding code.routine tablesOf
 sha512-of-spec 𝓤 H 𝓜 𝓖 𝓡 =
     entered 𝓤 H (tripleOf 𝓤 H (𝓖 .A) of.signature (of.spec 𝓤 H (𝓖 .A) (𝓜 .mem) (𝓡 .run)))
     (tables 𝓤 H 𝓜 𝓡 code.env .C) (tables 𝓤 H 𝓜 𝓡 code.env .Λ) #of code.function (code.unfolded 𝓤 H 𝓜 𝓡)
-    (pieces-meets T.the-type T′.the-laws 64 states512 Within (Result (hash sha512) 64) joins512 new.name feed.name finish.name 𝓤 H (𝓖 .A) (givenOf 𝓤 H 𝓜 𝓖) (tablesOf 𝓤 H 𝓜 (tables 𝓤 H 𝓜 𝓡 code.env))
+    (pieces-meets T.the-type T′.the-laws 64 states512 Within (Result sha512 64) joins512 new.name feed.name finish.name 𝓤 H (𝓖 .A) (givenOf 𝓤 H 𝓜 𝓖) (tablesOf 𝓤 H 𝓜 (tables 𝓤 H 𝓜 𝓡 code.env))
     (cited 𝓤 H (New T.the-type states512 𝓤 H (𝓖 .A)) 𝓜 𝓡 code.env new.name new.routine code.calls-sha2·sha512·Sha512·new (new-thm.met 𝓤 H 𝓜 𝓖 𝓡))
     (cited 𝓤 H (Feed T.the-type states512 𝓤 H (𝓖 .A)) 𝓜 𝓡 code.env feed.name feed.routine code.calls-running-hash·feed-sha512 (feed-thm.met 𝓤 H 𝓜 𝓖 𝓡))
     (cited 𝓤 H (Finish T.the-type states512 𝓤 H (𝓖 .A) 64) 𝓜 𝓡 code.env finish.name finish.routine code.calls-running-hash·finish-sha512 (finish-thm.met 𝓤 H 𝓜 𝓖 𝓡)))
