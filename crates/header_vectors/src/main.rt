@@ -285,7 +285,6 @@ fn run(s: &[u8]) {
     let mut vectors = Tally { right: 0, wrong: 0 };
     let mut edges = Tally { right: 0, wrong: 0 };
     let mut refused = Tally { right: 0, wrong: 0 };
-    let mut frames = Tally { right: 0, wrong: 0 };
     let mut i = 0;
     while i < s.len() {
         let e = line_end(s, i);
@@ -295,13 +294,23 @@ fn run(s: &[u8]) {
             Line::Refused(ok) => refused = counted(refused, ok),
             Line::Comment => {}
         }
-        frames = framed(frames, &s[i..e]);
         i = e;
     }
     print(b"vectors: ", vectors);
     print(b"edges: ", edges);
     print(b"refused: ", refused);
-    print(b"frames: ", frames);
+}
+
+// Judges each line of s as a frame.
+fn frames(s: &[u8]) -> Tally {
+    let mut t = Tally { right: 0, wrong: 0 };
+    let mut i = 0;
+    while i < s.len() {
+        let e = line_end(s, i);
+        t = framed(t, &s[i..e]);
+        i = e;
+    }
+    t
 }
 
 fn main() {
@@ -309,4 +318,5 @@ fn main() {
     let got = libc::read(STDIN_FILENO, &mut input);
     let n = io::count(got, &input);
     run(&input[..n]);
+    print(b"frames: ", frames(&input[..n]));
 }
