@@ -1,4 +1,4 @@
-// A frame once read: a reader that holds the caller's own bytes, and shows KID, counter, header and the rest without copying.
+// The frame reader: what a frame's header says, with a reference to the caller's frame, whose parts it hands out as slices.
 // Its functions are thin: each takes it apart and calls one on the slice and the number. `kid_of` and those below it have
 // plain parameters, for every other caller.
 use header::Ctr;

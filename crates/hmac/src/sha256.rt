@@ -1,4 +1,6 @@
 // HMAC-SHA-256 and HKDF-SHA-256.
+use crate::IPAD;
+use crate::OPAD;
 use crate::least;
 use octets::copy;
 use octets::xor;
@@ -65,8 +67,8 @@ impl HmacSha256 {
         ensures { λ r. ⌜ (Keyed256 r (now (key .entry)) []) × (r .inner .len ≡ 64) × (r .outer .len ≡ 64) ⌝ }
     {
         let block = block_key(key);
-        let inner = keyed(&block, 0x36);
-        let outer = keyed(&block, 0x5c);
+        let inner = keyed(&block, IPAD);
+        let outer = keyed(&block, OPAD);
         HmacSha256 { inner, outer }
     }
 
@@ -99,8 +101,8 @@ pub fn hmac_sha256(key: &[u8], text: &[u8]) -> [u8; 32]
     ensures { λ r. ⌜ (r ≡ hmac sha256 (now (key .entry)) (now (text .entry))) × (length r ≡ 32) ⌝ }
 {
     let block = block_key(key);
-    let inner = masked_block(&block, 0x36);
-    let outer = masked_block(&block, 0x5c);
+    let inner = masked_block(&block, IPAD);
+    let outer = masked_block(&block, OPAD);
     let digest = sha256_of(&inner, text);
     sha256_of(&outer, &digest)
 }

@@ -1,4 +1,6 @@
 // HMAC-SHA-512 and HKDF-SHA-512.
+use crate::IPAD;
+use crate::OPAD;
 use crate::least;
 use octets::copy;
 use octets::xor;
@@ -65,8 +67,8 @@ impl HmacSha512 {
         ensures { λ r. ⌜ (Keyed512 r (now (key .entry)) []) × (r .inner .len ≡ 128) × (r .outer .len ≡ 128) ⌝ }
     {
         let block = block_key(key);
-        let inner = keyed(&block, 0x36);
-        let outer = keyed(&block, 0x5c);
+        let inner = keyed(&block, IPAD);
+        let outer = keyed(&block, OPAD);
         HmacSha512 { inner, outer }
     }
 
@@ -99,8 +101,8 @@ pub fn hmac_sha512(key: &[u8], text: &[u8]) -> [u8; 64]
     ensures { λ r. ⌜ (r ≡ hmac sha512 (now (key .entry)) (now (text .entry))) × (length r ≡ 64) ⌝ }
 {
     let block = block_key(key);
-    let inner = masked_block(&block, 0x36);
-    let outer = masked_block(&block, 0x5c);
+    let inner = masked_block(&block, IPAD);
+    let outer = masked_block(&block, OPAD);
     let digest = sha512_of(&inner, text);
     sha512_of(&outer, &digest)
 }

@@ -104,7 +104,7 @@ module _ (D : Declared) where
     core-feed-clauses κs a = record { ghost = Unit {0}; requires = λ _. fact 𝓤 (P .May (a .0) (now (a .1 .0))); ensures = λ _ r _. fact 𝓤 (P .Fed (a .0) (now (a .1 .0)) r) }
 
     abbrev pub feed-clauses : Clauses 𝓤 feed-ended
-    feed-clauses κs a = record { ghost = Unit {0}; requires = λ _. fact 𝓤 (P .May (now (a .0)) (now (a .1 .0))); ensures = λ _ _ e. fact 𝓤 (P .Grown (now (a .0)) (now (a .1 .0)) (now (e .0))) }
+    feed-clauses κs a = record { ghost = Unit {0}; requires = λ _. fact 𝓤 (P .May (now (a .0)) (now (a .1 .0))); ensures = λ _ _ e. fact 𝓤 (P .FedWith (now (a .0)) (now (a .1 .0)) (now (e .0))) }
 
     abbrev pub core-finish-clauses : (n : ℕ) → Clauses 𝓤 (core-finish-ended n)
     core-finish-clauses n κs a = record { ghost = Unit {0}; requires = λ _. fact 𝓤 (P .Ends (a .0)); ensures = λ _ r _. fact 𝓤 (P .Digest (a .0) r) }

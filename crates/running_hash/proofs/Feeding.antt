@@ -94,7 +94,7 @@ module _ (D : Declared) (L : LL.Laws D) (plains : Plains (fields D)) (P : Relati
         → ent 𝓤 (⋆ 𝓤 H A (‵ (fobs γ (c.R D .coded .code r)) ∷ ‵ (fbor κ (Body (mem (c.R D)) b o γ)) ∷ ‵ (flft κ q) ∷ (‵ (flft κ′ q′) ⊛ ‵ ftrue) ∷ ‵ Own ∷ [])) (Post vunit)
     exits r e =
         qed W (‵ (fobs γ (c.R D .coded .code r)) ∷ ‵ (fbor κ (Body (mem (c.R D)) b o γ)) ∷ ‵ (flft κ q) ∷ (‵ (flft κ′ q′) ⊛ ‵ ftrue) ∷ ‵ Own ∷ []) ∵
-        suffices ! _ (ends-at 𝓤 H A (c.feed-ended D) stayed (c.feed-clauses D P 𝓤) W (((κ, (κ′, tt)), (q, (q′, tt)), tt, x, at), tt) vunit tt (r, (tt, tt)) (tt, (tt, tt))) $ says ! (P .grows h (now s) r e) $
+        suffices ! _ (ends-at 𝓤 H A (c.feed-ended D) stayed (c.feed-clauses D P 𝓤) W (((κ, (κ′, tt)), (q, (q′, tt)), tt, x, at), tt) vunit tt (r, (tt, tt)) (tt, (tt, tt))) $ says ! (P .feeds h (now s) r e) $
         move ! (2 ∷ 3 ∷ []) $ join ! $ frame ! $ feqI ! (List Val) (vptr b o ∷ []) (vptr b o ∷ []) refl $ fjoin3 ! $
         nothing ! $ move ! (2 ∷ 0 ∷ []) $ fjoin ! $ move ! (1 ∷ 0 ∷ []) $ fjoin ! $ feqI ! (List Val) (vunit ∷ []) (vunit ∷ []) refl $ move ! (1 ∷ 0 ∷ []) $ done !
 

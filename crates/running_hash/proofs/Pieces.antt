@@ -182,8 +182,8 @@ module _ (D : Declared) (L : LL.Laws D) (n : ℕ) (P : Relations (D .D)) (Within
           move ! (3 ∷ 0 ∷ 2 ∷ []) $ use3 W (raw (c.Feed D P 𝓤 H A .pre (to-feed 𝓤 H A W ν₁ l₃ δ₁ r₀ κ q s))) (goes-feed 𝓤 H A W ν₁ l₃ δ₁ r₀ κ q s (J .first (now s) (now s′) r₀ within e₀)) $
           calls-at ! fm (c.Feed D P 𝓤 H A) known-feed (to-feed 𝓤 H A W ν₁ l₃ δ₁ r₀ κ q s) (and-then ! (load ! (from ! (stop !)) (look ! 7 refl)) (and-then ! (load ! (from ! (stop !)) (look ! 16 refl)) (no-more !))) (λ u₁.
           use1 W (later (some (λ (t : Unit {0}). (tokens 𝓤 H A W ν₁ l₃ δ₁ r₀ κ q s ⊛ ‵ (unit .own t (u₁ ∷ []))) ⊛ raw (ensured 𝓤 H A (c.feed-ended D) (c.feed-clauses D P 𝓤) (ν₁ ∷ [], (κ, tt)) (x 𝓤 H A W ν₁ l₃ δ₁ r₀, (s, tt)) tt t)))) (id⊢ 𝓤 _) $ await ! tt $ pick ! (λ t₁.
-          split ! $ move ! (1 ∷ []) $ use1 W (some (λ (z : D .D × (Unit {0} × Unit {0})). ‵ (lasts (c.feed-ended D) (ν₁ ∷ [], (κ, tt)) (x 𝓤 H A W ν₁ l₃ δ₁ r₀, (s, tt)) z) ⊛ raw (fact 𝓤 (P .Grown r₀ (now s) (z .0))))) (id⊢ 𝓤 _) $ pick ! (λ z₁.
-          split ! $ move ! (1 ∷ []) $ heard ! (P .Grown r₀ (now s) (z₁ .0)) (λ e₁. fsplit ! $ move ! (1 ∷ []) $ drop ! $ move ! (1 ∷ []) $ split ! $ move ! (1 ∷ []) $ feqL ! (λ o₁.
+          split ! $ move ! (1 ∷ []) $ use1 W (some (λ (z : D .D × (Unit {0} × Unit {0})). ‵ (lasts (c.feed-ended D) (ν₁ ∷ [], (κ, tt)) (x 𝓤 H A W ν₁ l₃ δ₁ r₀, (s, tt)) z) ⊛ raw (fact 𝓤 (P .FedWith r₀ (now s) (z .0))))) (id⊢ 𝓤 _) $ pick ! (λ z₁.
+          split ! $ move ! (1 ∷ []) $ heard ! (P .FedWith r₀ (now s) (z₁ .0)) (λ e₁. fsplit ! $ move ! (1 ∷ []) $ drop ! $ move ! (1 ∷ []) $ split ! $ move ! (1 ∷ []) $ feqL ! (λ o₁.
           -- [the tokens; the state's last value; the first piece; the loan; _8; …]
           land ! (from ! (stop !)) (init ! 10 refl (subst (λ (y : Val). Holds (hasTy tyUnit y) × WT y) (sym (ap only o₁)) (tt, tt))) $
           split ! $ lft-end ! tt $ move ! (0 ∷ 4 ∷ 2 ∷ []) $ use3 W (later (‵ (mem (c.R D) .lies (z₁ .0) l₃ 0))) (ref-back 𝓤 H A W (c.R D) (ν₁ ∷ []) δ₁ (z₁ .0) l₃ 0) $ await ! tt $
@@ -195,8 +195,8 @@ module _ (D : Declared) (L : LL.Laws D) (n : ℕ) (P : Relations (D .D)) (Within
           move ! (3 ∷ 0 ∷ 2 ∷ []) $ use3 W (raw (c.Feed D P 𝓤 H A .pre (to-feed 𝓤 H A W ν₂ l₃ δ₂ (z₁ .0) κ′ q′ s′))) (goes-feed 𝓤 H A W ν₂ l₃ δ₂ (z₁ .0) κ′ q′ s′ (J .second (now s) (now s′) r₀ (z₁ .0) within e₀ e₁)) $
           calls-at ! fm (c.Feed D P 𝓤 H A) known-feed (to-feed 𝓤 H A W ν₂ l₃ δ₂ (z₁ .0) κ′ q′ s′) (and-then ! (load ! (from ! (stop !)) (look ! 7 refl)) (and-then ! (load ! (from ! (stop !)) (look ! 16 refl)) (no-more !))) (λ u₂.
           use1 W (later (some (λ (t : Unit {0}). (tokens 𝓤 H A W ν₂ l₃ δ₂ (z₁ .0) κ′ q′ s′ ⊛ ‵ (unit .own t (u₂ ∷ []))) ⊛ raw (ensured 𝓤 H A (c.feed-ended D) (c.feed-clauses D P 𝓤) (ν₂ ∷ [], (κ′, tt)) (x 𝓤 H A W ν₂ l₃ δ₂ (z₁ .0), (s′, tt)) tt t)))) (id⊢ 𝓤 _) $ await ! tt $ pick ! (λ t₂.
-          split ! $ move ! (1 ∷ []) $ use1 W (some (λ (z : D .D × (Unit {0} × Unit {0})). ‵ (lasts (c.feed-ended D) (ν₂ ∷ [], (κ′, tt)) (x 𝓤 H A W ν₂ l₃ δ₂ (z₁ .0), (s′, tt)) z) ⊛ raw (fact 𝓤 (P .Grown (z₁ .0) (now s′) (z .0))))) (id⊢ 𝓤 _) $ pick ! (λ z₂.
-          split ! $ move ! (1 ∷ []) $ heard ! (P .Grown (z₁ .0) (now s′) (z₂ .0)) (λ e₂. fsplit ! $ move ! (1 ∷ []) $ drop ! $ move ! (1 ∷ []) $ split ! $ move ! (1 ∷ []) $ feqL ! (λ o₂.
+          split ! $ move ! (1 ∷ []) $ use1 W (some (λ (z : D .D × (Unit {0} × Unit {0})). ‵ (lasts (c.feed-ended D) (ν₂ ∷ [], (κ′, tt)) (x 𝓤 H A W ν₂ l₃ δ₂ (z₁ .0), (s′, tt)) z) ⊛ raw (fact 𝓤 (P .FedWith (z₁ .0) (now s′) (z .0))))) (id⊢ 𝓤 _) $ pick ! (λ z₂.
+          split ! $ move ! (1 ∷ []) $ heard ! (P .FedWith (z₁ .0) (now s′) (z₂ .0)) (λ e₂. fsplit ! $ move ! (1 ∷ []) $ drop ! $ move ! (1 ∷ []) $ split ! $ move ! (1 ∷ []) $ feqL ! (λ o₂.
           land ! (from ! (stop !)) (store ! 12 refl (subst (λ (y : Val). Holds (hasTy tyUnit y) × WT y) (sym (ap only o₂)) (tt, tt))) $
           split ! $ lft-end ! tt $ move ! (0 ∷ 4 ∷ 2 ∷ []) $ use3 W (later (‵ (mem (c.R D) .lies (z₂ .0) l₃ 0))) (ref-back 𝓤 H A W (c.R D) (ν₂ ∷ []) δ₂ (z₂ .0) l₃ 0) $ await ! tt $
           -- the third loan: [the state; the second token; the second piece; the first token; the first piece; _8; …]

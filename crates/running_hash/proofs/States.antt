@@ -9,7 +9,7 @@ use Rattle.sha2.specs.Sizes.{sha256, sha512}
 use Rattle.sha2.specs.Running.{maximum, Fed256, Fed512}
 use Rattle.sha2.specs.declared.sha256.Sha256.{Sha256}
 use Rattle.sha2.specs.declared.sha512.Sha512.{Sha512}
-use Rattle.running_hash.specs.Lent.{Grown, Finished, digestOf}
+use Rattle.running_hash.specs.Lent.{FedWith, Finished, digestOf}
 
 -- Of the functions by value: a state may be fed some bytes, and what it then is; it may be finished, and its digest; it is new.
 -- Of those on a lent state: what feeding and finishing make of it. The first give the second.
@@ -19,17 +19,17 @@ pub record Relations (S : Type 0) : Type 1 where
   pub Ends : S → Type 0
   pub Digest : S → List ℕ → Type 0
   pub Fresh : S → Type 0
-  pub Grown : S → List ℕ → S → Type 0
+  pub FedWith : S → List ℕ → S → Type 0
   pub Finished : S → List ℕ → S → Type 0
-  pub grows : (h : S) (l : List ℕ) (r : S) → Fed h l r → Grown h l r
+  pub feeds : (h : S) (l : List ℕ) (r : S) → Fed h l r → FedWith h l r
   pub finishes : (h : S) (d : List ℕ) (r : S) → Digest h d → Fresh r → Finished h d r
 
 -- What the contracts give together for two pieces, and for the digest d of n bytes.
 pub record Joins (S : Type 0) (P : Relations S) (Within : List ℕ → List ℕ → Type 0) (Result : List ℕ → List ℕ → List ℕ → Type 0) : Type 0 where
   pub first : (a b : List ℕ) (r : S) → Within a b → P .Fresh r → P .May r a
-  pub second : (a b : List ℕ) (r s : S) → Within a b → P .Fresh r → P .Grown r a s → P .May s b
-  pub end : (a b : List ℕ) (r s t : S) → Within a b → P .Fresh r → P .Grown r a s → P .Grown s b t → P .Ends t
-  pub whole : (a b d : List ℕ) (r s t u : S) → P .Fresh r → P .Grown r a s → P .Grown s b t → P .Finished t d u → Result a b d
+  pub second : (a b : List ℕ) (r s : S) → Within a b → P .Fresh r → P .FedWith r a s → P .May s b
+  pub end : (a b : List ℕ) (r s t : S) → Within a b → P .Fresh r → P .FedWith r a s → P .FedWith s b t → P .Ends t
+  pub whole : (a b d : List ℕ) (r s t u : S) → P .Fresh r → P .FedWith r a s → P .FedWith s b t → P .Finished t d u → Result a b d
 
 abbrev pub Within : List ℕ → List ℕ → Type 0
 Within a b = length a + length b ≤ maximum
@@ -46,9 +46,9 @@ module _ (S : Type 0) (len : S → ℕ) (Has : S → List ℕ → Type 0) (p : P
     Ends = λ h. len h ≤ maximum;
     Digest = λ h d. ((m : List ℕ) → Has h m → d ≡ hash p m) × (length d ≡ n);
     Fresh = λ r. Has r [] × (len r ≡ 0);
-    Grown = Grown S len Has;
+    FedWith = FedWith S len Has;
     Finished = Finished S len Has p n;
-    grows = λ h l r e. (e .0, e .1);
+    feeds = λ h l r e. (e .0, e .1);
     finishes = λ h d r e f. (e .0, e .1, f .0, f .1);
   }
 

@@ -1,4 +1,5 @@
-// The running hash, lent by its caller and changed in place: thin functions over the states of sha2.
+// Hash states behind `&mut`: thin functions over those of sha2, and above them the digest of two pieces, for callers without
+// a state of their own.
 use sha2::Sha256;
 use sha2::Sha512;
 ghost use mathlib.Core.Path.{_≡_};
@@ -6,12 +7,12 @@ ghost use Prim.Native.Nat.{_+_, _≤_};
 ghost use lib.ListN.{length};
 ghost use Rattle.sha2.specs.Sizes.{sha256, sha512};
 ghost use Rattle.sha2.specs.Running.{maximum};
-ghost use Rattle.running_hash.specs.Lent.{Grown256, Finished256, Grown512, Finished512, digestOf};
+ghost use Rattle.running_hash.specs.Lent.{FedWith256, Finished256, FedWith512, Finished512, digestOf};
 
 // The state has been fed s after what was fed before.
 pub fn feed_sha256(state: &mut Sha256, s: &[u8])
     requires { ⌜ now state .len + length (now s) ≤ maximum ⌝ }
-    ensures { λ _. ⌜ Grown256 (now (state .entry)) (now (s .entry)) (now (state .exit)) ⌝ }
+    ensures { λ _. ⌜ FedWith256 (now (state .entry)) (now (s .entry)) (now (state .exit)) ⌝ }
 {
     let before = *state;
     let after = before.feed(s);
@@ -43,7 +44,7 @@ pub fn sha256_of(first: &[u8], second: &[u8]) -> [u8; 32]
 // The same with SHA-512.
 pub fn feed_sha512(state: &mut Sha512, s: &[u8])
     requires { ⌜ now state .len + length (now s) ≤ maximum ⌝ }
-    ensures { λ _. ⌜ Grown512 (now (state .entry)) (now (s .entry)) (now (state .exit)) ⌝ }
+    ensures { λ _. ⌜ FedWith512 (now (state .entry)) (now (s .entry)) (now (state .exit)) ⌝ }
 {
     let before = *state;
     let after = before.feed(s);
