@@ -4,6 +4,8 @@ use hmac::hkdf_expand_sha256;
 use hmac::hkdf_extract_sha256;
 use hmac::hmac_sha256;
 use hmac::hmac_sha512;
+use running_hash::sha256_of;
+use running_hash::sha512_of;
 use sha2::MAXIMUM;
 use sha2::Sha256;
 use sha2::Sha512;
@@ -13,6 +15,7 @@ ghost use mathlib.Core.Path.{_≡_};
 ghost use Prim.Native.Nat.{_+_, _*_, _≤_};
 ghost use lib.ListN.{length};
 ghost use Rattle.hmac.specs.Running.{largest};
+ghost use Rattle.sha2.specs.Running.{maximum};
 
 pub struct Tally {
     pub matches: u64,
@@ -86,9 +89,35 @@ pub fn count(out: &mut [u8], first: u8) {
     }
 }
 
-pub fn sha_case(t: Tally, message: &[u8], sha256: &[u8], sha512: &[u8]) -> Tally {
+// Both digests of a message in two pieces, which are fed to lent states.
+fn pieces(t: Tally, first: &[u8], second: &[u8], sha256: &[u8], sha512: &[u8]) -> Tally
+    requires { ⌜ length (now first) + length (now second) ≤ maximum ⌝ }
+{
+    let short = sha256_of(first, second);
+    let long = sha512_of(first, second);
+    t.plus(is_hex(&short, sha256)).plus(is_hex(&long, sha512))
+}
+
+// The same with the message cut at every place.
+fn cuts(t: Tally, message: &[u8], sha256: &[u8], sha512: &[u8]) -> Tally
+    requires { ⌜ length (now message) ≤ maximum ⌝ }
+{
+    let mut sum = t;
+    let mut at = 0;
+    while at < message.len() {
+        sum = pieces(sum, &message[..at], &message[at..], sha256, sha512);
+        at += 1;
+    }
+    pieces(sum, message, b"", sha256, sha512)
+}
+
+// A message by value and whole, or lent and cut.
+pub fn sha_case(t: Tally, lent: bool, message: &[u8], sha256: &[u8], sha512: &[u8]) -> Tally {
     if MAXIMUM < message.len() {
         return t.plus(false);
+    }
+    if lent {
+        return cuts(t, message, sha256, sha512);
     }
     let short = Sha256::new().feed(message).finish();
     let long = Sha512::new().feed(message).finish();

@@ -17,6 +17,10 @@ fn report(name: &[u8], t: Tally) {
 fn main() {
     report(b"FIPS 180-4, SHA-256 and SHA-512", vectors::sha_cases());
     report(
+        b"the same messages, lent states fed in two pieces",
+        vectors::lent_cases(),
+    );
+    report(
         b"RFC 4231, HMAC-SHA-256 and HMAC-SHA-512",
         vectors::hmac_cases(),
     );

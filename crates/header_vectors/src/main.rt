@@ -1,5 +1,6 @@
 // Runs the header vectors of standard input: each is written and read, or refused, and the program
-// prints for each group how many came out right and how many wrong.
+// prints for each group how many came out right and how many wrong. Each is also the front of a frame,
+// whose reader must show the KID, the counter, the header and the bytes after it.
 ghost use mathlib.Core.Path.{_≡_};
 ghost use Prim.Native.Nat.{_≤_, _<_};
 ghost use lib.ListN.{length};
@@ -160,8 +161,19 @@ fn agrees(kid: u64, ctr: u64, bytes: &[u8], n: usize) -> bool {
         && reads(bytes, kid, ctr, n)
 }
 
-// Judges the KID, CTR and header that are spelt in a line.
-fn pair(line: &[u8]) -> bool {
+// Whether a frame is shown as kid, ctr, its first n bytes and those after them.
+fn shows(frame: &[u8], kid: u64, ctr: u64, n: usize) -> bool {
+    if frame.len() < n {
+        return false;
+    }
+    frame::kid_of(frame).0 == kid
+        && frame::ctr_of(frame).0 == ctr
+        && octets::equal(frame::header_of(frame), &frame[..n])
+        && octets::equal(frame::rest_of(frame), &frame[n..])
+}
+
+// Judges the KID, CTR and header that are spelt in a line, as a header or at the front of a frame.
+fn pair(line: &[u8], framed: bool) -> bool {
     let kid = number(line, 2);
     if line.len() <= kid.next {
         return false;
@@ -172,7 +184,11 @@ fn pair(line: &[u8]) -> bool {
     }
     let e = encoded(line, ctr.next + 1);
     let bytes = e.bytes;
-    agrees(kid.value, ctr.value, &bytes, e.len)
+    if framed {
+        shows(&bytes, kid.value, ctr.value, e.len)
+    } else {
+        agrees(kid.value, ctr.value, &bytes, e.len)
+    }
 }
 
 // Whether the first n of these bytes are refused.
@@ -186,14 +202,38 @@ fn refuses(bytes: &[u8], n: usize) -> bool {
     }
 }
 
+// Whether the bytes spelt in a line are shown as a frame without a header.
+fn refused_frame(line: &[u8]) -> bool {
+    let e = encoded(line, 2);
+    let bytes = e.bytes;
+    let n = e.len;
+    if bytes.len() < n {
+        return false;
+    }
+    shows(&bytes[..n], 0, 0, 0)
+}
+
+// The count with what a line spells as a frame.
+fn framed(t: Tally, line: &[u8]) -> Tally {
+    if line.len() == 0 {
+        return t;
+    }
+    let kind = line[0];
+    match kind {
+        b'v' | b'e' => counted(t, pair(line, true)),
+        b'r' => counted(t, refused_frame(line)),
+        _ => t,
+    }
+}
+
 fn judge(line: &[u8]) -> Line {
     if line.len() == 0 {
         return Line::Comment;
     }
     let kind = line[0];
     match kind {
-        b'v' => Line::Vector(pair(line)),
-        b'e' => Line::Edge(pair(line)),
+        b'v' => Line::Vector(pair(line, false)),
+        b'e' => Line::Edge(pair(line, false)),
         b'r' => {
             let e = encoded(line, 2);
             let bytes = e.bytes;
@@ -261,9 +301,22 @@ fn run(s: &[u8]) {
     print(b"refused: ", refused);
 }
 
+// Judges each line of s as a frame.
+fn frames(s: &[u8]) -> Tally {
+    let mut t = Tally { right: 0, wrong: 0 };
+    let mut i = 0;
+    while i < s.len() {
+        let e = line_end(s, i);
+        t = framed(t, &s[i..e]);
+        i = e;
+    }
+    t
+}
+
 fn main() {
     let mut input = io::large_buffer();
     let got = libc::read(STDIN_FILENO, &mut input);
     let n = io::count(got, &input);
     run(&input[..n]);
+    print(b"frames: ", frames(&input[..n]));
 }

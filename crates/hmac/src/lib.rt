@@ -22,3 +22,8 @@ fn least(a: usize, b: usize) -> usize
 
 // The most bytes of a key, of a text that is given whole, and of HKDF's info.
 pub const LARGEST: usize = 0x8000_0000;
+
+// The bytes that the key is masked with, for the inner and for the outer hash.
+const IPAD: u8 = 0x36;
+
+const OPAD: u8 = 0x5c;

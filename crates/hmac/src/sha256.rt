@@ -1,7 +1,10 @@
 // HMAC-SHA-256 and HKDF-SHA-256.
+use crate::IPAD;
+use crate::OPAD;
 use crate::least;
 use octets::copy;
 use octets::xor;
+use running_hash::sha256_of;
 use sha2::Sha256;
 ghost use mathlib.Core.Path.{_≡_};
 ghost use mathlib.Core.List.{List, [], _∷_, _++_};
@@ -36,15 +39,24 @@ fn block_key(key: &[u8]) -> [u8; 64]
     block
 }
 
-// The hash that has been fed the block XOR a pad.
-fn keyed(block: &[u8], pad: u8) -> Sha256
+// The block XOR a pad.
+fn masked_block(block: &[u8], pad: u8) -> [u8; 64]
     requires { ⌜ length (now block) ≡ 64 ⌝ }
-    ensures { λ r. ⌜ (Fed256 r (xors (now (block .entry)) (replicate 64 pad))) × (r .len ≡ 64) ⌝ }
+    ensures { λ r. ⌜ (r ≡ xors (now (block .entry)) (replicate 64 pad)) × (length r ≡ 64) ⌝ }
 {
     let mut masked = [0u8; 64];
     let pads = [pad; 64];
     copy(&mut masked, block);
     xor(&mut masked, &pads);
+    masked
+}
+
+// The hash that has been fed the block XOR a pad.
+fn keyed(block: &[u8], pad: u8) -> Sha256
+    requires { ⌜ length (now block) ≡ 64 ⌝ }
+    ensures { λ r. ⌜ (Fed256 r (xors (now (block .entry)) (replicate 64 pad))) × (r .len ≡ 64) ⌝ }
+{
+    let masked = masked_block(block, pad);
     Sha256::new().feed(&masked)
 }
 
@@ -55,8 +67,8 @@ impl HmacSha256 {
         ensures { λ r. ⌜ (Keyed256 r (now (key .entry)) []) × (r .inner .len ≡ 64) × (r .outer .len ≡ 64) ⌝ }
     {
         let block = block_key(key);
-        let inner = keyed(&block, 0x36);
-        let outer = keyed(&block, 0x5c);
+        let inner = keyed(&block, IPAD);
+        let outer = keyed(&block, OPAD);
         HmacSha256 { inner, outer }
     }
 
@@ -88,7 +100,11 @@ pub fn hmac_sha256(key: &[u8], text: &[u8]) -> [u8; 32]
     requires { ⌜ (length (now key) ≤ largest) × (length (now text) ≤ largest) ⌝ }
     ensures { λ r. ⌜ (r ≡ hmac sha256 (now (key .entry)) (now (text .entry))) × (length r ≡ 32) ⌝ }
 {
-    HmacSha256::new(key).feed(text).finish()
+    let block = block_key(key);
+    let inner = masked_block(&block, IPAD);
+    let outer = masked_block(&block, OPAD);
+    let digest = sha256_of(&inner, text);
+    sha256_of(&outer, &digest)
 }
 
 // HKDF-Extract: the pseudorandom key.

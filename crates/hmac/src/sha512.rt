@@ -1,7 +1,10 @@
 // HMAC-SHA-512 and HKDF-SHA-512.
+use crate::IPAD;
+use crate::OPAD;
 use crate::least;
 use octets::copy;
 use octets::xor;
+use running_hash::sha512_of;
 use sha2::Sha512;
 ghost use mathlib.Core.Path.{_≡_};
 ghost use mathlib.Core.List.{List, [], _∷_, _++_};
@@ -36,15 +39,24 @@ fn block_key(key: &[u8]) -> [u8; 128]
     block
 }
 
-// The hash that has been fed the block XOR a pad.
-fn keyed(block: &[u8], pad: u8) -> Sha512
+// The block XOR a pad.
+fn masked_block(block: &[u8], pad: u8) -> [u8; 128]
     requires { ⌜ length (now block) ≡ 128 ⌝ }
-    ensures { λ r. ⌜ (Fed512 r (xors (now (block .entry)) (replicate 128 pad))) × (r .len ≡ 128) ⌝ }
+    ensures { λ r. ⌜ (r ≡ xors (now (block .entry)) (replicate 128 pad)) × (length r ≡ 128) ⌝ }
 {
     let mut masked = [0u8; 128];
     let pads = [pad; 128];
     copy(&mut masked, block);
     xor(&mut masked, &pads);
+    masked
+}
+
+// The hash that has been fed the block XOR a pad.
+fn keyed(block: &[u8], pad: u8) -> Sha512
+    requires { ⌜ length (now block) ≡ 128 ⌝ }
+    ensures { λ r. ⌜ (Fed512 r (xors (now (block .entry)) (replicate 128 pad))) × (r .len ≡ 128) ⌝ }
+{
+    let masked = masked_block(block, pad);
     Sha512::new().feed(&masked)
 }
 
@@ -55,8 +67,8 @@ impl HmacSha512 {
         ensures { λ r. ⌜ (Keyed512 r (now (key .entry)) []) × (r .inner .len ≡ 128) × (r .outer .len ≡ 128) ⌝ }
     {
         let block = block_key(key);
-        let inner = keyed(&block, 0x36);
-        let outer = keyed(&block, 0x5c);
+        let inner = keyed(&block, IPAD);
+        let outer = keyed(&block, OPAD);
         HmacSha512 { inner, outer }
     }
 
@@ -88,7 +100,11 @@ pub fn hmac_sha512(key: &[u8], text: &[u8]) -> [u8; 64]
     requires { ⌜ (length (now key) ≤ largest) × (length (now text) ≤ largest) ⌝ }
     ensures { λ r. ⌜ (r ≡ hmac sha512 (now (key .entry)) (now (text .entry))) × (length r ≡ 64) ⌝ }
 {
-    HmacSha512::new(key).feed(text).finish()
+    let block = block_key(key);
+    let inner = masked_block(&block, IPAD);
+    let outer = masked_block(&block, OPAD);
+    let digest = sha512_of(&inner, text);
+    sha512_of(&outer, &digest)
 }
 
 // HKDF-Extract: the pseudorandom key.

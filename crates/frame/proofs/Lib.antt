@@ -1,0 +1,6 @@
+mod Contracts
+pub mod Laws
+mod Numbers
+mod Parts
+mod Steps
+mod Whole

@@ -1,0 +1,5 @@
+mod Contracts
+mod Feeding
+mod Finishing
+mod Pieces
+mod States
