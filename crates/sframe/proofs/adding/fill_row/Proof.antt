@@ -1,8 +1,8 @@
 use mathlib.Core.Path.{refl, ap}
 use Prim.Native.Nat.{ℕ, _+_}
 use borrow.Author.Needs.{needs}
-use Rattle.suites.proofs.Laws.{Nk-most}
-use Rattle.sframe.proofs.AddSteps.{number-byte, empty-size, row-filled}
+use Rattle.suites.proofs.Laws.{number-byte, Nk-most}
+use Rattle.sframe.proofs.AddSteps.{empty-size, row-filled}
 use Rattle.sframe.proofs.adding.fill_row.Statement.{statement}
 use Rattle.sframe.proofs.adding.fill_row.Tie as tie
 
