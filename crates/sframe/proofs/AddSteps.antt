@@ -22,7 +22,7 @@ use Rattle.store.proofs.Rows.{row-salted, row-keyed}
 use Rattle.store.proofs.Basics.{told-true}
 use Rattle.store.proofs.Stores.{Stored, sound-stored, stored-length, encode-at}
 use Rattle.store.proofs.Tables.{empty-is}
-use Rattle.suites.specs.Suites.{numberOf, Nk}
+use Rattle.suites.specs.Suites.{numberOf, Nk, Nn}
 use Rattle.suites.specs.Derivation.{sframeKey, sframeSalt}
 use Rattle.suites.specs.declared.sizes.Suite.{Suite}
 use Rattle.suites.proofs.Laws.{number-known, Nk-most, key-length, salt-length}
@@ -44,14 +44,15 @@ part-filled : (l x : List ℕ) (i k : ℕ) → length x ≡ k → putMid i k l x
 unfolding pasted
 part-filled l x i k e = ap (λ (t : List ℕ). take i l ++ (x ++ t)) (drop-drop k i l ∙ ap (λ (j : ℕ). drop (i + j) l) (sym e))
 
-pub row-filled : (role : Role) (s : Suite) (kid mark suite : ℕ) (base salt key a b c : List ℕ) (end : ℕ) → mark ≡ markFor role → suite ≡ numberOf s
-    → salt ≡ sframeSalt s base kid → key ≡ sframeKey s base kid → end ≡ 32 + Nk s
-    → a ≡ newRow mark suite kid (replicate 12 0) [] → b ≡ putMid 20 (32 - 20) a salt → c ≡ putMid 32 (end - 32) b key → c ≡ encode (added sframe role kid (numberOf s) base)
+pub row-filled : (role : Role) (s : Suite) (kid mark suite : ℕ) (base salt key a b c : List ℕ) (middle end : ℕ) → mark ≡ markFor role → suite ≡ numberOf s
+    → salt ≡ sframeSalt s base kid → key ≡ sframeKey s base kid → middle ≡ 20 + Nn → end ≡ 32 + Nk s
+    → a ≡ newRow mark suite kid (replicate 12 0) [] → b ≡ putMid 20 (middle - 20) a salt → c ≡ putMid 32 (end - 32) b key → c ≡ encode (added sframe role kid (numberOf s) base)
 unfolding keyFor saltFor
-row-filled role s kid mark suite base salt key a b c end m n p q f x y z =
+row-filled role s kid mark suite base salt key a b c middle end m n p q g f x y z =
     let ls : length salt ≡ 12 = ap length p ∙ salt-length s base kid in
     let lk : length key ≡ Nk s = ap length q ∙ key-length s base kid in
-    let one : b ≡ row mark suite kid 0 salt [] = y ∙ part-filled a salt 20 12 ls ∙ ap (λ (t : List ℕ). pasted t 20 salt) x ∙ row-salted mark suite kid 0 salt ls in
+    let j : length salt ≡ middle - 20 = omega arith in
+    let one : b ≡ row mark suite kid 0 salt [] = y ∙ part-filled a salt 20 (middle - 20) j ∙ ap (λ (t : List ℕ). pasted t 20 salt) x ∙ row-salted mark suite kid 0 salt ls in
     let k : length key ≡ end - 32 = omega arith in
     let two : c ≡ row mark suite kid 0 salt key = z ∙ part-filled b key 32 (end - 32) k ∙ ap (λ (t : List ℕ). pasted t 32 key) one ∙ row-keyed mark suite kid 0 salt key ls (omega (arith, Nk-most s)) in
     two ∙ rw (m, n, p, q) (same-row ∙ marked role kid (numberOf s) base)
