@@ -1,19 +1,17 @@
 -- The suite's number, the new record's bytes and the free record, over plain variables. Assumes nothing.
-use mathlib.Core.Path.{_≡_, refl, sym, _∙_, ap}
-use mathlib.Core.Bool.{Bool, true, false, not}
+use mathlib.Core.Path.{_≡_, sym, _∙_, ap}
+use mathlib.Core.Bool.{Bool, false, not}
 use mathlib.Core.List.{List, [], _++_}
-use Prim.Native.Nat.{ℕ, zero, suc, _+_, _*_, _/_, _-_, _<_, _≤_}
+use Prim.Native.Nat.{ℕ, _+_, _*_, _/_, _-_, _≤_}
 use native.Mathlib.Omega.{arith}
 use lib.ListN.{length, getD, take, drop, replicate, length-replicate}
 use lib.Seq.{drop-drop}
 use borrow.Rule.Slice.PartMut.{putMid}
-use borrow.Author.Tests.{ne-eqb, le-leb, lt-leb}
 use Rattle.octets.specs.Octets.{Octets, pasted}
 use Rattle.store.specs.Calls.{added}
 use Rattle.store.specs.Judging.{newRow}
 use Rattle.store.specs.Record.{empty, row, encode}
 use Rattle.store.specs.Store.{decodeAll, records, sound}
-use Rattle.store.specs.Suites.{isSuite}
 use Rattle.store.specs.Table.{FreeIn}
 use Rattle.store.specs.declared.Place.{Place}
 use Rattle.store.specs.declared.Place.the-variants.{At}
@@ -24,61 +22,12 @@ use Rattle.store.proofs.Rows.{row-salted, row-keyed}
 use Rattle.store.proofs.Basics.{told-true}
 use Rattle.store.proofs.Stores.{Stored, sound-stored, stored-length, encode-at}
 use Rattle.store.proofs.Tables.{empty-is}
-use Rattle.suites.specs.Suites.{suiteOf, numberOf, Nk}
+use Rattle.suites.specs.Suites.{numberOf, Nk, Nn}
 use Rattle.suites.specs.Derivation.{sframeKey, sframeSalt}
 use Rattle.suites.specs.declared.sizes.Suite.{Suite}
-use Rattle.suites.specs.declared.sizes.Suite.the-variants.{Ctr80, Ctr64, Ctr32, Gcm128, Gcm256}
-use Rattle.suites.specs.declared.sizes.Found.the-variants.{Known, Unknown}
-use Rattle.suites.proofs.Laws.{Nk-most, key-length, salt-length}
+use Rattle.suites.proofs.Laws.{number-known, Nk-most, key-length, salt-length}
 use Rattle.sframe.specs.Adding.{markFor}
 use Rattle.sframe.specs.Sframe.{keyFor, saltFor, sframe}
-
--- ---- suites and their numbers
-
-number-known : (s : Suite) → suiteOf (numberOf s) ≡ Known s
-unfolding suiteOf
-number-known Ctr80 = refl
-number-known Ctr64 = refl
-number-known Ctr32 = refl
-number-known Gcm128 = refl
-number-known Gcm256 = refl
-
-pub number-byte : (s : Suite) → numberOf s < 256
-number-byte Ctr80 = omega arith
-number-byte Ctr64 = omega arith
-number-byte Ctr32 = omega arith
-number-byte Gcm128 = omega arith
-number-byte Gcm256 = omega arith
-
-number-high : (n : ℕ) → suiteOf (suc (suc (suc (suc (suc (suc n)))))) ≡ Unknown
-unfolding suiteOf
-number-high n =
-    let m = suc (suc (suc (suc (suc (suc n))))) in
-    rw (ne-eqb m 1 (λ z. omega arith), ne-eqb m 2 (λ z. omega arith), ne-eqb m 3 (λ z. omega arith), ne-eqb m 4 (λ z. omega arith), ne-eqb m 5 (λ z. omega arith))
-
--- a number that names a suite is that suite's, and one that names none is no suite's
-pub suite-named : (n : ℕ) (s : Suite) → suiteOf n ≡ Known s → (isSuite n ≡ true) × (n ≡ numberOf s)
-unfolding suiteOf isSuite
-suite-named zero s e = let z : _≡_ {A = ℕ} 0 1 = cc in absurd (omega arith)
-suite-named (suc zero) s e = let q : Ctr80 ≡ s = cc in (refl, ap numberOf q)
-suite-named (suc (suc zero)) s e = let q : Ctr64 ≡ s = cc in (refl, ap numberOf q)
-suite-named (suc (suc (suc zero))) s e = let q : Ctr32 ≡ s = cc in (refl, ap numberOf q)
-suite-named (suc (suc (suc (suc zero)))) s e = let q : Gcm128 ≡ s = cc in (refl, ap numberOf q)
-suite-named (suc (suc (suc (suc (suc zero))))) s e = let q : Gcm256 ≡ s = cc in (refl, ap numberOf q)
-suite-named (suc (suc (suc (suc (suc (suc n)))))) s e =
-    let u : Unknown ≡ Known s = sym (number-high n) ∙ e in
-    let z : _≡_ {A = ℕ} 0 1 = cc in
-    absurd (omega arith)
-
-pub suite-unnamed : (n : ℕ) → suiteOf n ≡ Unknown → isSuite n ≡ false
-unfolding suiteOf isSuite
-suite-unnamed zero e = refl
-suite-unnamed (suc zero) e = let z : _≡_ {A = ℕ} 0 1 = cc in absurd (omega arith)
-suite-unnamed (suc (suc zero)) e = let z : _≡_ {A = ℕ} 0 1 = cc in absurd (omega arith)
-suite-unnamed (suc (suc (suc zero))) e = let z : _≡_ {A = ℕ} 0 1 = cc in absurd (omega arith)
-suite-unnamed (suc (suc (suc (suc zero)))) e = let z : _≡_ {A = ℕ} 0 1 = cc in absurd (omega arith)
-suite-unnamed (suc (suc (suc (suc (suc zero))))) e = let z : _≡_ {A = ℕ} 0 1 = cc in absurd (omega arith)
-suite-unnamed (suc (suc (suc (suc (suc (suc n)))))) e = rw (le-leb 1 (suc (suc (suc (suc (suc (suc n)))))) (omega arith), lt-leb (suc (suc (suc (suc (suc (suc n)))))) 5 (omega arith))
 
 -- ---- the new record
 
@@ -95,14 +44,15 @@ part-filled : (l x : List ℕ) (i k : ℕ) → length x ≡ k → putMid i k l x
 unfolding pasted
 part-filled l x i k e = ap (λ (t : List ℕ). take i l ++ (x ++ t)) (drop-drop k i l ∙ ap (λ (j : ℕ). drop (i + j) l) (sym e))
 
-pub row-filled : (role : Role) (s : Suite) (kid mark suite : ℕ) (base salt key a b c : List ℕ) (end : ℕ) → mark ≡ markFor role → suite ≡ numberOf s
-    → salt ≡ sframeSalt s base kid → key ≡ sframeKey s base kid → end ≡ 32 + Nk s
-    → a ≡ newRow mark suite kid (replicate 12 0) [] → b ≡ putMid 20 (32 - 20) a salt → c ≡ putMid 32 (end - 32) b key → c ≡ encode (added sframe role kid (numberOf s) base)
+pub row-filled : (role : Role) (s : Suite) (kid mark suite : ℕ) (base salt key a b c : List ℕ) (middle end : ℕ) → mark ≡ markFor role → suite ≡ numberOf s
+    → salt ≡ sframeSalt s base kid → key ≡ sframeKey s base kid → middle ≡ 20 + Nn → end ≡ 32 + Nk s
+    → a ≡ newRow mark suite kid (replicate 12 0) [] → b ≡ putMid 20 (middle - 20) a salt → c ≡ putMid 32 (end - 32) b key → c ≡ encode (added sframe role kid (numberOf s) base)
 unfolding keyFor saltFor
-row-filled role s kid mark suite base salt key a b c end m n p q f x y z =
+row-filled role s kid mark suite base salt key a b c middle end m n p q g f x y z =
     let ls : length salt ≡ 12 = ap length p ∙ salt-length s base kid in
     let lk : length key ≡ Nk s = ap length q ∙ key-length s base kid in
-    let one : b ≡ row mark suite kid 0 salt [] = y ∙ part-filled a salt 20 12 ls ∙ ap (λ (t : List ℕ). pasted t 20 salt) x ∙ row-salted mark suite kid 0 salt ls in
+    let j : length salt ≡ middle - 20 = omega arith in
+    let one : b ≡ row mark suite kid 0 salt [] = y ∙ part-filled a salt 20 (middle - 20) j ∙ ap (λ (t : List ℕ). pasted t 20 salt) x ∙ row-salted mark suite kid 0 salt ls in
     let k : length key ≡ end - 32 = omega arith in
     let two : c ≡ row mark suite kid 0 salt key = z ∙ part-filled b key 32 (end - 32) k ∙ ap (λ (t : List ℕ). pasted t 32 key) one ∙ row-keyed mark suite kid 0 salt key ls (omega (arith, Nk-most s)) in
     two ∙ rw (m, n, p, q) (same-row ∙ marked role kid (numberOf s) base)

@@ -24,8 +24,9 @@ use Rattle.store.specs.declared.Place.{Place}
 use Rattle.store.specs.declared.Place.the-variants.{Nowhere}
 use Rattle.store.proofs.Codec.{read-receiving, obeys-fits}
 use Rattle.store.specs.Table.{isEmpty, get, FoundIn}
-use Rattle.store.specs.Suites.{isSuite, keySize, tagSize}
+use Rattle.store.specs.Suites.{isSuite, tagSize}
 use Rattle.store.proofs.Basics.{Two, yes′, no′, two, told-false, told-true}
+use Rattle.store.proofs.Suites.{key-named, tag-named}
 use Rattle.suites.specs.Suites.{suiteOf, Nk, Nt}
 use Rattle.suites.specs.declared.sizes.Found.the-variants.{Known}
 use Rattle.suites.specs.declared.sizes.Suite.{Suite}
@@ -38,7 +39,6 @@ use Rattle.sframe.specs.declared.opening.Room.{Room}
 use Rattle.sframe.specs.declared.opening.Room.the-variants.{Enough, Short}
 use Rattle.sframe.specs.Sframe.{given, decryptBy, sframe}
 use Rattle.sframe.proofs.SealSteps.{Placed, row-decode}
-use Rattle.sframe.proofs.Suites.{numbered}
 
 -- ---- decryption with a record's bytes
 
@@ -96,14 +96,6 @@ not-receiving l d = by (two (eqb (getD l 0 0) 1)) (two (eqb (getD l 0 0) 3))
     by (no′ a) (yes′ b) = rw (a, ne-eqb (getD l 0 0) 2 d, b)
     by (no′ a) (no′ b) = rw (a, ne-eqb (getD l 0 0) 2 d, b)
 
--- a number that names a suite has that suite's sizes
-sizes-of : (n : ℕ) (s : Suite) → isSuite n ≡ true → suiteOf n ≡ Known s → (keySize n ≡ Nk s) × (tagSize n ≡ Nt s)
-sizes-of n s k e =
-    let m = numbered n k in
-    let w : Known (m .suite) ≡ Known s = sym (m .found) ∙ e in
-    let q : m .suite ≡ s = cc in
-    (m .key-size ∙ ap Nk q, m .tag-size ∙ ap Nt q)
-
 module _ (l m f room : List ℕ) (kid : Kid) (ctr : Ctr) (n : ℕ) where
   stop : (k : ℕ) → first (openCauses sframe true (Header kid ctr n) (decode l) m f room) ≡ suc k
       → ((suc k ≡ openAt sframe true (Header kid ctr n) (decode l) [] m f room .number) × (0 ≡ openAt sframe true (Header kid ctr n) (decode l) [] m f room .written))
@@ -123,7 +115,7 @@ module _ (l m f room : List ℕ) (kid : Kid) (ctr : Ctr) (n : ℕ) where
 
     module _ (s : Suite) (found : suiteOf (getD l 1 0) ≡ Known s) where
       nt : tagSize (getD l 1 0) ≡ Nt s
-      nt = sizes-of (getD l 1 0) s known found .1
+      nt = tag-named (getD l 1 0) s found
 
       pub frame-short : length f - n < Nt s
           → ((11 ≡ openAt sframe true (Header kid ctr n) (decode l) [] m f room .number) × (0 ≡ openAt sframe true (Header kid ctr n) (decode l) [] m f room .written))
@@ -147,7 +139,7 @@ module _ (l m f room : List ℕ) (kid : Kid) (ctr : Ctr) (n : ℕ) where
       decrypted-is : decrypted sframe (Header kid ctr n) (decode l) m f
           ≡ given (decrypt s (take (Nk s) (drop 32 l)) (nonce (take 12 (drop 20 l)) (ctr .0)) (take n f ++ m) (drop n f))
       unfolding decrypted decryptBy
-      decrypted-is = rw (read-receiving l mark, found, sizes-of (getD l 1 0) s known found .0)
+      decrypted-is = rw (read-receiving l mark, found, key-named (getD l 1 0) s found)
 
       module _ (h : Nt s ≤ length f - n) (e : false ≡ tooLong (length f - n - Nt s) (length m)) (r : length f - n - Nt s ≤ length room) (d : Decrypted)
           (is : d ≡ decrypt s (take (Nk s) (drop 32 l)) (nonce (take 12 (drop 20 l)) (ctr .0)) (take n f ++ m) (drop n f)) where

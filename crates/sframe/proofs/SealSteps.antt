@@ -25,6 +25,7 @@ use Rattle.store.specs.declared.Place.the-variants.{At, Nowhere}
 use Rattle.store.proofs.Basics.{Two, yes′, no′, two, told-false, told-true, Pass, passes, settled-done, settled-refused}
 use Rattle.store.proofs.Codec.{Fit, sendingOf, read-sending, row-read, encode-length, encode-octets, decode-encode, obeys-fits, fits-obeys}
 use Rattle.store.proofs.Stores.{Stored, sound-stored, stored-length, get-fit, encode-at, encode-set}
+use Rattle.store.proofs.Suites.{suite-unnamed, key-named, tag-named}
 use Rattle.store.proofs.Tables.{put-at, holds-some}
 use Rattle.suites.specs.Suites.{suiteOf, Nk, Nt}
 use Rattle.suites.specs.Derivation.{nonce}
@@ -37,7 +38,6 @@ use Rattle.sframe.specs.Calls.{tooLong, isSending, advanced, nextLength,
 use Rattle.sframe.specs.Frame.{frame}
 use Rattle.sframe.specs.Sframe.{encryptBy, sframe}
 use Rattle.sframe.proofs.Seals.{not-long}
-use Rattle.sframe.proofs.Suites.{numbered}
 
 -- ---- limits
 
@@ -58,20 +58,8 @@ not-long-told p m r e f = not-long p m (sym e ∙ f)
 
 -- ---- the suite of a record
 
-known-is : (a b : Suite) → Known a ≡ Known b → a ≡ b
-known-is a b e = cc
-
 pub never-unknown : (n : ℕ) (r : Found) → isSuite n ≡ true → r ≡ suiteOf n → r ≡ Unknown → ⊥
-never-unknown n r k e u =
-    let m : Known (numbered n k .suite) ≡ Unknown = sym (numbered n k .found) ∙ sym e ∙ u in
-    let z : _≡_ {A = ℕ} 0 1 = cc in
-    omega arith
-
-pub suite-sizes : (n : ℕ) (s : Suite) → isSuite n ≡ true → suiteOf n ≡ Known s → (keySize n ≡ Nk s) × (tagSize n ≡ Nt s)
-suite-sizes n s k e =
-    let m = numbered n k in
-    let q : m .suite ≡ s = known-is (m .suite) s (sym (m .found) ∙ e) in
-    (m .key-size ∙ ap Nk q, m .tag-size ∙ ap Nt q)
+never-unknown n r k e u = false≢true (sym (suite-unnamed n (sym e ∙ u)) ∙ k)
 
 pub tag-told : (n : ℕ) (s : Suite) (nt : ℕ) → suiteOf n ≡ Known s → nt ≡ Nt s → nt ≤ 16
 tag-told n s nt f e = let m = Suites.Nt-most s in omega arith
@@ -151,11 +139,11 @@ module _ (l : List ℕ) (kid : ℕ) (metadata plaintext room : List ℕ) where
           unfolding sealCauses first
           judged-long h = sym (as-sending ∙ rw (unspent, sym long ∙ h))
 
-          module _ (short : t ≡ false) (n nt : ℕ) (s : Suite) (known : isSuite (getD l 1 0) ≡ true) (found : suiteOf (getD l 1 0) ≡ Known s) (size : nt ≡ Nt s)
+          module _ (short : t ≡ false) (n nt : ℕ) (s : Suite) (found : suiteOf (getD l 1 0) ≡ Known s) (size : nt ≡ Nt s)
               (head : n ≡ length (header kid (number 8 (drop 12 l)))) where
             needed : nextLength (asSending l) kid plaintext ≡ n + (length plaintext + nt)
             unfolding nextLength
-            needed = ap₂ (λ (a b : ℕ). a + (length plaintext + b)) (sym head) (suite-sizes (getD l 1 0) s known found .1 ∙ sym size)
+            needed = ap₂ (λ (a b : ℕ). a + (length plaintext + b)) (sym head) (tag-named (getD l 1 0) s found ∙ sym size)
 
             pub judged-room : length room < n + (length plaintext + nt) → 12 ≡ first (sealCauses true (decode l) kid metadata plaintext room)
             unfolding sealCauses first
@@ -220,7 +208,7 @@ module _ (l : List ℕ) (kid : ℕ) (metadata plaintext room : List ℕ) (c : Cl
   unfolding nextFrame frame encryptBy body
   next-is =
       ap (λ (x : KeyRecord). nextFrame sframe x kid metadata plaintext) (read-sending l (c .mark-is))
-      ∙ rw (found, suite-sizes (getD l 1 0) s (c .known) found .0)
+      ∙ rw (found, key-named (getD l 1 0) s found)
 
   body-size : length (body s l hd metadata plaintext) ≡ length plaintext + Nt s
   unfolding body
@@ -231,7 +219,7 @@ module _ (l : List ℕ) (kid : ℕ) (metadata plaintext room : List ℕ) (c : Cl
     front-is = ap₂ take (sub-zero n) wrote ∙ take-at hd z n (sym long)
 
     pub frame-inside : n + (length plaintext + nt) ≤ length room
-    frame-inside = let t = suite-sizes (getD l 1 0) s (c .known) found .1 in omega (arith, c .room-enough)
+    frame-inside = let t = tag-named (getD l 1 0) s found in omega (arith, c .room-enough)
 
     pub front-fits : length (take (n - 0) head) ≤ length room
     front-fits = let h = frame-inside in simp length-take (omega arith)

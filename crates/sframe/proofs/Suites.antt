@@ -1,87 +1,58 @@
 -- The five suites have the laws that the store and its calls use of a cipher. Assumes nothing.
-use mathlib.Core.Path.{_≡_, refl, ap}
-use mathlib.Core.Bool.{Bool, true, false, false≢true}
+use mathlib.Core.Path.{_≡_, ap}
+use mathlib.Core.Bool.{true}
 use mathlib.Core.List.{List}
-use Prim.Native.Nat.{ℕ, zero, suc, _+_}
+use Prim.Native.Nat.{ℕ, _+_}
 use native.Mathlib.Omega.{arith}
-use lib.Dec.{leb}
 use lib.ListN.{length}
-use borrow.Author.Tests.{leb-true}
-use Rattle.octets.specs.Octets.{Octets, both}
+use Rattle.octets.specs.Octets.{Octets}
 use Rattle.store.specs.Cipher as Store
-use Rattle.store.specs.Suites.{isSuite, sizes, keySize, tagSize}
+use Rattle.store.specs.Suites.{isSuite, keySize, tagSize}
 use Rattle.store.proofs.CipherLaws.{Laws}
-use Rattle.suites.specs.Suites.{suiteOf, Nk, Nt}
+use Rattle.store.proofs.Suites.{named, key-named, tag-named}
 use Rattle.suites.specs.Aead as Aead
 use Rattle.suites.specs.Aead.{plain, differs}
-use Rattle.suites.specs.declared.sizes.Suite.{Suite}
-use Rattle.suites.specs.declared.sizes.Suite.the-variants.{Ctr80, Ctr64, Ctr32, Gcm128, Gcm256}
-use Rattle.suites.specs.declared.sizes.Found.the-variants.{Known}
 use Rattle.suites.proofs.Laws as Suites
 use Rattle.sframe.specs.Sframe.{given, keyFor, saltFor, encryptBy, decryptBy, sframe}
-
--- A number that is a suite's, with the suite and its sizes.
-pub record Numbered (n : ℕ) : Type 0 where
-  pub suite : Suite
-  pub found : suiteOf n ≡ Known suite
-  pub key-size : keySize n ≡ Nk suite
-  pub tag-size : tagSize n ≡ Nt suite
-
-both-right : (a b : Bool) → both a b ≡ true → b ≡ true
-both-right true b e = e
-both-right false b e = absurd (false≢true e)
-
-pub numbered : (n : ℕ) → isSuite n ≡ true → Numbered n
-unfolding isSuite sizes keySize tagSize suiteOf
-numbered zero e = absurd (false≢true e)
-numbered (suc zero) e = record { suite = Ctr80; found = refl; key-size = refl; tag-size = refl }
-numbered (suc (suc zero)) e = record { suite = Ctr64; found = refl; key-size = refl; tag-size = refl }
-numbered (suc (suc (suc zero))) e = record { suite = Ctr32; found = refl; key-size = refl; tag-size = refl }
-numbered (suc (suc (suc (suc zero)))) e = record { suite = Gcm128; found = refl; key-size = refl; tag-size = refl }
-numbered (suc (suc (suc (suc (suc zero))))) e = record { suite = Gcm256; found = refl; key-size = refl; tag-size = refl }
-numbered (suc (suc (suc (suc (suc (suc n)))))) e = absurd (omega (arith, leb-true (suc (suc (suc (suc (suc (suc n)))))) 5 (both-right (leb 1 (suc (suc (suc (suc (suc (suc n))))))) _ e)))
 
 given-plain : (d : Aead.Decrypted) (p : List ℕ) → given d ≡ Store.plain p → d ≡ plain p
 given-plain (plain q) p e = let r : q ≡ p = cc in ap plain r
 given-plain differs p e = let z : _≡_ {A = ℕ} 0 1 = cc in absurd (omega arith)
 
 module _ (n : ℕ) (k : isSuite n ≡ true) where
-  abbrev s : Suite
-  s = numbered n k .suite
-
   key-is : (base : List ℕ) (kid : ℕ) → length (keyFor n base kid) ≡ keySize n
   unfolding keyFor
-  key-is base kid = let m = numbered n k in rw (m .found, m .key-size) (Suites.key-length (m .suite) base kid)
+  key-is base kid = let m = named n k in rw (m .found, key-named n (m .suite) (m .found)) (Suites.key-length (m .suite) base kid)
 
   key-bytes : (base : List ℕ) (kid : ℕ) → Octets (keyFor n base kid)
   unfolding keyFor
-  key-bytes base kid = let m = numbered n k in rw (m .found) (Suites.key-octets (m .suite) base kid)
+  key-bytes base kid = let m = named n k in rw (m .found) (Suites.key-octets (m .suite) base kid)
 
   salt-is : (base : List ℕ) (kid : ℕ) → length (saltFor n base kid) ≡ 12
   unfolding saltFor
-  salt-is base kid = let m = numbered n k in rw (m .found) (Suites.salt-length (m .suite) base kid)
+  salt-is base kid = let m = named n k in rw (m .found) (Suites.salt-length (m .suite) base kid)
 
   salt-bytes : (base : List ℕ) (kid : ℕ) → Octets (saltFor n base kid)
   unfolding saltFor
-  salt-bytes base kid = let m = numbered n k in rw (m .found) (Suites.salt-octets (m .suite) base kid)
+  salt-bytes base kid = let m = named n k in rw (m .found) (Suites.salt-octets (m .suite) base kid)
 
   module _ (key nonce aad : List ℕ) where
     encrypt-is : (p : List ℕ) → length (encryptBy n key nonce aad p) ≡ length p + tagSize n
     unfolding encryptBy
-    encrypt-is p = let m = numbered n k in rw (m .found, m .tag-size) (Suites.encrypt-size (m .suite) key nonce aad p)
+    encrypt-is p = let m = named n k in rw (m .found, tag-named n (m .suite) (m .found)) (Suites.encrypt-size (m .suite) key nonce aad p)
 
     encrypt-bytes : (p : List ℕ) → Octets p → Octets (encryptBy n key nonce aad p)
     unfolding encryptBy
-    encrypt-bytes p o = let m = numbered n k in rw (m .found) (Suites.encrypt-bytes (m .suite) key nonce aad p o)
+    encrypt-bytes p o = let m = named n k in rw (m .found) (Suites.encrypt-bytes (m .suite) key nonce aad p o)
 
     back : (p : List ℕ) → decryptBy n key nonce aad (encryptBy n key nonce aad p) ≡ Store.plain p
     unfolding encryptBy decryptBy
-    back p = let m = numbered n k in rw (m .found) (ap given (Suites.decrypt-encrypt (m .suite) key nonce aad p))
+    back p = let m = named n k in rw (m .found) (ap given (Suites.decrypt-encrypt (m .suite) key nonce aad p))
 
     only : (c p : List ℕ) → Octets c → decryptBy n key nonce aad c ≡ Store.plain p → Octets p × (c ≡ encryptBy n key nonce aad p)
     unfolding encryptBy decryptBy
     only c p o e =
-        let m = numbered n k in
+        let m = named n k in
         let d : Aead.decrypt (m .suite) key nonce aad c ≡ plain p = given-plain _ p (rw (m .found) at e) in
         (Suites.decrypt-octets (m .suite) key nonce aad c p o d, rw (m .found) (Suites.decrypt-only (m .suite) key nonce aad c p d))
 

@@ -5,18 +5,11 @@ use mathlib.Core.List.{List, []}
 use Prim.Native.Nat.{ℕ}
 use Rattle.store.specs.Cipher as Store
 use Rattle.store.specs.Cipher.{Cipher}
+use Rattle.store.specs.Suites.{withSuite}
 use Rattle.suites.specs.Suites.{suiteOf}
 use Rattle.suites.specs.Derivation.{sframeKey, sframeSalt, nonce}
 use Rattle.suites.specs.Aead as Aead
 use Rattle.suites.specs.Aead.{plain, differs}
-use Rattle.suites.specs.declared.sizes.Suite.{Suite}
-use Rattle.suites.specs.declared.sizes.Found.{Found}
-use Rattle.suites.specs.declared.sizes.Found.the-variants.{Known, Unknown}
-
--- A function of the suite that was found, or something else where there is none.
-abbrev pub withSuite : {A : Type 0} → A → (Suite → A) → Found → A
-withSuite none f (Known s) = f s
-withSuite none f Unknown = none
 
 abbrev pub given : Aead.Decrypted → Store.Decrypted
 given (plain p) = Store.plain p

@@ -42,9 +42,10 @@ fn fill_row(row: &mut [u8], role: Role, suite: Suite, kid: Kid, base: &[u8])
     ensures { λ _. ⌜ now (row .exit) ≡ encode (added sframe role (kid .0) (numberOf suite) (now (base .entry))) ⌝ }
 {
     store::start_row(row, mark_for(role), suite.number() as u8, kid);
-    suites::derivation::derive_salt(suite, base, kid, &mut row[SALT..KEY]);
-    let end = KEY + suite.key_size();
-    suites::derivation::derive_key(suite, base, kid, &mut row[KEY..end]);
+    let salt_end = SALT + suite.nonce_size();
+    suites::derivation::derive_salt(suite, base, kid, &mut row[SALT..salt_end]);
+    let key_end = KEY + suite.key_size();
+    suites::derivation::derive_key(suite, base, kid, &mut row[KEY..key_end]);
 }
 
 // Adds a key: the lowest-numbered empty record holds what the suite derives from the base key for a KID.

@@ -1,34 +1,28 @@
--- The cipher suites of RFC 9605, section 4.5, by number, with their sizes in bytes.
--- Assumes nothing.
-use mathlib.Core.Bool.{Bool}
+-- The cipher suites of RFC 9605, section 4.5, by number, as the store knows them: all of it is read off the table in
+-- crates/suites/specs/Suites.antt. Assumes nothing.
+use mathlib.Core.Bool.{Bool, true, false}
 use Prim.Native.Nat.{ℕ}
-use lib.Dec.{leb, eqb}
-use Rattle.octets.specs.Octets.{both}
-use Rattle.header.specs.Header.{pick}
+use Rattle.suites.specs.Suites.{suiteOf, Nk, Nt, Nn}
+use Rattle.suites.specs.declared.sizes.Suite.{Suite}
+use Rattle.suites.specs.declared.sizes.Found.{Found}
+use Rattle.suites.specs.declared.sizes.Found.the-variants.{Known, Unknown}
 
--- There are the suites 1 to 5.
+-- A function of the suite that was found, or something else where there is none.
+abbrev pub withSuite : {A : Type 0} → A → (Suite → A) → Found → A
+withSuite none f (Known s) = f s
+withSuite none f Unknown = none
+
+-- The number is a suite's.
 unfoldable pub isSuite : ℕ → Bool
-isSuite n = both (leb 1 n) (leb n 5)
+isSuite n = withSuite false (λ s. true) (suiteOf n)
 
-pub record Sizes : Type 0 where
-  pub nk : ℕ
-  pub nt : ℕ
-
--- Nk and Nt of each suite.
-unfoldable pub sizes : ℕ → Sizes
-sizes n =
-    pick (eqb n 1) (record { nk = 48; nt = 10 })
-    (pick (eqb n 2) (record { nk = 48; nt = 8 })
-    (pick (eqb n 3) (record { nk = 48; nt = 4 })
-    (pick (eqb n 4) (record { nk = 16; nt = 16 })
-    (pick (eqb n 5) (record { nk = 32; nt = 16 }) (record { nk = 0; nt = 0 })))))
-
+-- Nk and Nt of the suite of a number; 0 where there is none.
 unfoldable pub keySize : ℕ → ℕ
-keySize n = sizes n .nk
+keySize n = withSuite 0 Nk (suiteOf n)
 
 unfoldable pub tagSize : ℕ → ℕ
-tagSize n = sizes n .nt
+tagSize n = withSuite 0 Nt (suiteOf n)
 
 -- Nn, the same for every suite.
 abbrev pub saltSize : ℕ
-saltSize = 12
+saltSize = Nn

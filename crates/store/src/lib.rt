@@ -1,6 +1,7 @@
 // The key store: records of 80 bytes in bytes that the caller lends.
 use header::Ctr;
 use header::Kid;
+use suites::sizes::Found;
 ghost use mathlib.Core.Path.{_≡_};
 ghost use mathlib.Core.List.{[]};
 ghost use Prim.Native.Nat.{_+_, _/_, _%_, _≤_, _<_};
@@ -67,26 +68,20 @@ pub enum Place {
 pub fn is_suite(n: u8) -> bool
     ensures { λ r. ⌜ r ≡ isSuite n ⌝ }
 {
-    if n < 1 {
-        return false;
+    match suites::sizes::find(n as u64) {
+        Found::Known(_) => true,
+        Found::Unknown => false,
     }
-    n <= 5
 }
 
 // Nk of a suite; 0 where there is none.
 pub fn key_size(n: u8) -> usize
     ensures { λ r. ⌜ (r ≡ keySize n) × (r ≤ keyRoom) ⌝ }
 {
-    if n == 4 {
-        return 16;
+    match suites::sizes::find(n as u64) {
+        Found::Known(suite) => suite.key_size(),
+        Found::Unknown => 0,
     }
-    if n == 5 {
-        return 32;
-    }
-    if !is_suite(n) {
-        return 0;
-    }
-    48
 }
 
 // Whether every byte is zero.

@@ -2,14 +2,14 @@
 use mathlib.Core.Path.{_≡_, refl, sym, _∙_, ap, ap₂}
 use mathlib.Core.Bool.{Bool, true, false, false≢true}
 use mathlib.Core.List.{List, [], _++_}
-use Prim.Native.Nat.{ℕ, _+_, _^_, _-_, _<_, _≤_}
+use Prim.Native.Nat.{ℕ, zero, suc, _+_, _^_, _-_, _<_, _≤_}
 use native.Mathlib.Nat.{mod-eq-of-lt, lt-of-lt-of-le, pow-le-pow-right}
 use native.Mathlib.Omega.{arith}
 use lib.Bits.{bitXor, xor-comm}
 use lib.Dec.{leb}
 use lib.ListN.{length, getD, take, drop, length-append, take-append-drop}
 use lib.Seq.{take-all, take-at, drop-at, length-take-le, ext-getD}
-use borrow.Author.Tests.{le-leb}
+use borrow.Author.Tests.{le-leb, ne-eqb}
 use Rattle.octets.specs.Octets.{Octets, bytes, number, xors, same, both}
 use Rattle.octets.proofs.Bits.{xor-twice}
 use Rattle.octets.proofs.Laws.{bytes-length, bytes-octets, number-bytes, xors-length, xors-octets, xors-at, same-refl, same-eq, octets-append, octets-take}
@@ -22,10 +22,49 @@ use Rattle.suites.specs.declared.sizes.Suite.{Suite}
 use Rattle.suites.specs.declared.sizes.Suite.the-variants.{Ctr80, Ctr64, Ctr32, Gcm128, Gcm256}
 use Rattle.suites.specs.declared.sizes.Mode.{Mode}
 use Rattle.suites.specs.declared.sizes.Mode.the-variants.{CtrHmac, Gcm}
-use Rattle.suites.specs.Suites.{Nk, Nn, Nt, hashOf, modeOf, cipherKeySize}
+use Rattle.suites.specs.declared.sizes.Found.the-variants.{Known, Unknown}
+use Rattle.suites.specs.Suites.{suiteOf, numberOf, Nk, Nn, Nt, hashOf, modeOf, cipherKeySize}
 use Rattle.suites.specs.Derivation.{sframeKey, sframeSalt, nonce}
 use Rattle.suites.specs.Aead.{cipherKey, firstCount, ctrTag, tagIn, ciphertext, tag, encrypt, plain, differs, pick, decrypt}
 use Rattle.hmac.proofs.Laws.{hmac-length, hmac-octets, expand-length, expand-octets}
+
+-- ---- numbers
+
+pub number-byte : (s : Suite) → numberOf s < 256
+number-byte Ctr80 = omega arith
+number-byte Ctr64 = omega arith
+number-byte Ctr32 = omega arith
+number-byte Gcm128 = omega arith
+number-byte Gcm256 = omega arith
+
+-- a suite's number finds it
+pub number-known : (s : Suite) → suiteOf (numberOf s) ≡ Known s
+unfolding suiteOf
+number-known Ctr80 = refl
+number-known Ctr64 = refl
+number-known Ctr32 = refl
+number-known Gcm128 = refl
+number-known Gcm256 = refl
+
+number-high : (n : ℕ) → suiteOf (suc (suc (suc (suc (suc (suc n)))))) ≡ Unknown
+unfolding suiteOf
+number-high n =
+    let m = suc (suc (suc (suc (suc (suc n))))) in
+    rw (ne-eqb m 1 (λ z. omega arith), ne-eqb m 2 (λ z. omega arith), ne-eqb m 3 (λ z. omega arith), ne-eqb m 4 (λ z. omega arith), ne-eqb m 5 (λ z. omega arith))
+
+-- and no other number does
+pub number-is : (n : ℕ) (s : Suite) → suiteOf n ≡ Known s → n ≡ numberOf s
+unfolding suiteOf
+number-is zero s e = let z : _≡_ {A = ℕ} 0 1 = cc in absurd (omega arith)
+number-is (suc zero) s e = let q : Ctr80 ≡ s = cc in ap numberOf q
+number-is (suc (suc zero)) s e = let q : Ctr64 ≡ s = cc in ap numberOf q
+number-is (suc (suc (suc zero))) s e = let q : Ctr32 ≡ s = cc in ap numberOf q
+number-is (suc (suc (suc (suc zero)))) s e = let q : Gcm128 ≡ s = cc in ap numberOf q
+number-is (suc (suc (suc (suc (suc zero))))) s e = let q : Gcm256 ≡ s = cc in ap numberOf q
+number-is (suc (suc (suc (suc (suc (suc n)))))) s e =
+    let u : Unknown ≡ Known s = sym (number-high n) ∙ e in
+    let z : _≡_ {A = ℕ} 0 1 = cc in
+    absurd (omega arith)
 
 -- ---- sizes
 

@@ -32,9 +32,12 @@ ciphertext s key nonce plaintext = ctr (cipherKey s key) nonce (firstCount (mode
 
 -- 4.5.1: the tag's input: the lengths of the associated data and of the ciphertext, and the tag's, in 8 bytes each; the
 -- nonce, the associated data and the ciphertext.
+abbrev pub lengthSize : ℕ
+lengthSize = 8
+
 unfoldable pub tagInput : ℕ → List ℕ → List ℕ → List ℕ → List ℕ
 tagInput nt nonce aad ciphertext =
-    bytes 8 (length aad) ++ (bytes 8 (length ciphertext) ++ (bytes 8 nt ++ (nonce ++ (aad ++ ciphertext))))
+    bytes lengthSize (length aad) ++ (bytes lengthSize (length ciphertext) ++ (bytes lengthSize nt ++ (nonce ++ (aad ++ ciphertext))))
 
 -- 4.5.1: the first Nt bytes of the HMAC.
 unfoldable pub ctrTag : ℕ → List ℕ → List ℕ → List ℕ → List ℕ → List ℕ

@@ -1,6 +1,7 @@
 -- Key derivation and the nonce: RFC 9605, sections 4.4.2 and 4.4.3. Assumes nothing.
 use mathlib.Core.List.{List, [], _∷_, _++_}
-use Prim.Native.Nat.{ℕ}
+use Prim.Native.Nat.{ℕ, _+_}
+use lib.ListN.{length}
 use Rattle.octets.specs.Octets.{bytes, xors}
 use Rattle.hmac.specs.Hkdf.{extract, expand}
 use Rattle.suites.specs.declared.sizes.Suite.{Suite}
@@ -22,8 +23,21 @@ unfoldable pub secret : Suite → List ℕ → List ℕ
 secret s base = extract (hashOf s) [] base
 
 -- The label of a derivation: its text, the KID in 8 bytes, the suite in 2.
+abbrev pub kidSize : ℕ
+kidSize = 8
+
+abbrev pub numberSize : ℕ
+numberSize = 2
+
 unfoldable pub label : List ℕ → Suite → ℕ → List ℕ
-label text s kid = text ++ (bytes 8 kid ++ bytes 2 (numberOf s))
+label text s kid = text ++ (bytes kidSize kid ++ bytes numberSize (numberOf s))
+
+abbrev pub labelSize : List ℕ → ℕ
+labelSize text = length text + (kidSize + numberSize)
+
+-- No text is longer.
+abbrev pub maxText : ℕ
+maxText = 32
 
 -- sframe_key and sframe_salt.
 unfoldable pub sframeKey : Suite → List ℕ → ℕ → List ℕ

@@ -71,6 +71,10 @@ Nt Ctr32 = 4
 Nt Gcm128 = 16
 Nt Gcm256 = 16
 
+-- The longest tag.
+abbrev pub maxNt : ℕ
+maxNt = Nt Gcm128
+
 -- The hash of the suite's key derivation.
 abbrev pub hashOf : Suite → Params
 hashOf Ctr80 = sha256

@@ -6,14 +6,19 @@ ghost use lib.ListN.{length, take, drop};
 ghost use Rattle.aes.specs.Context.{Context, Ready, keyOf};
 ghost use Rattle.gcm.specs.Counter.{ctr};
 ghost use Rattle.gcm.specs.Gcm.{maxBytes, gcmTag};
-ghost use Rattle.suites.specs.Suites.{Nk, Nn, Nt, modeOf};
+ghost use Rattle.suites.specs.Suites.{Nk, Nn, Nt, maxNt, modeOf};
+ghost use Rattle.suites.specs.declared.sizes.Suite.the-variants.{Ctr80};
 ghost use Rattle.suites.specs.Aead.{cipherKey, firstCount, ctrTag, tag, encrypt, decrypt, isPlain, roomAfter};
 use crate::hmac_tag::mac;
 use crate::sizes::Aes128CtrHmacSha256Tag80;
+use crate::sizes::Aes128GcmSha256;
 use crate::sizes::Mode;
 use crate::sizes::Suite;
 
-// The bytes of the key that encrypt in the suites of counter mode.
+// The bytes of the longest tag, which is that of Galois/counter mode.
+const MAX_NT: usize = Aes128GcmSha256::NT;
+
+// The bytes of the key that encrypt in counter mode: by the contract of `cipher_key_size`, the same in its three suites.
 const NKA: usize = Aes128CtrHmacSha256Tag80::NKA;
 
 // The AES context of a suite's key.
@@ -35,7 +40,7 @@ fn first_count(suite: Suite) -> u32
     }
 }
 
-// 16 bytes of which the first nt are the tag of counter mode.
+// MAX_NT bytes of which the first nt are the tag of counter mode.
 fn ctr_tag(
     nt: usize,
     key: &[u8],
@@ -43,14 +48,14 @@ fn ctr_tag(
     header: &[u8],
     metadata: &[u8],
     ciphertext: &[u8],
-) -> [u8; 16]
-    requires { ⌜ (length (now key) ≡ 48) × (length (now nonce) ≡ Nn) × (nt ≤ 16) ⌝ }
+) -> [u8; MAX_NT]
+    requires { ⌜ (length (now key) ≡ Nk Ctr80) × (length (now nonce) ≡ Nn) × (nt ≤ maxNt) ⌝ }
     requires { ⌜ (length (now header) ≤ maxBytes) × (length (now metadata) ≤ maxBytes) × (length (now ciphertext) ≤ maxBytes) ⌝ }
-    ensures { λ r. ⌜ (take nt r ≡ ctrTag nt (now (key .entry)) (now (nonce .entry)) (now (header .entry) ++ now (metadata .entry)) (now (ciphertext .entry))) × (length r ≡ 16) ⌝ }
+    ensures { λ r. ⌜ (take nt r ≡ ctrTag nt (now (key .entry)) (now (nonce .entry)) (now (header .entry) ++ now (metadata .entry)) (now (ciphertext .entry))) × (length r ≡ maxNt) ⌝ }
 {
     let whole = mac(&key[NKA..], nt, nonce, header, metadata, ciphertext);
-    let mut t = [0u8; 16];
-    octets::copy(&mut t, &whole[0..16]);
+    let mut t = [0u8; MAX_NT];
+    octets::copy(&mut t, &whole[0..MAX_NT]);
     t
 }
 
@@ -61,18 +66,18 @@ fn gcm_tag(
     header: &[u8],
     metadata: &[u8],
     ciphertext: &[u8],
-) -> [u8; 16]
+) -> [u8; MAX_NT]
     requires { ⌜ (Ready (now ctx)) × (length (now nonce) ≡ Nn) ⌝ }
     requires { ⌜ (length (now header) ≤ maxBytes) × (length (now metadata) ≤ maxBytes) × (length (now ciphertext) ≤ maxBytes) ⌝ }
-    ensures { λ r. ⌜ (r ≡ gcmTag (keyOf (now (ctx .entry))) (now (nonce .entry)) (now (header .entry) ++ now (metadata .entry)) (now (ciphertext .entry))) × (length r ≡ 16) ⌝ }
+    ensures { λ r. ⌜ (r ≡ gcmTag (keyOf (now (ctx .entry))) (now (nonce .entry)) (now (header .entry) ++ now (metadata .entry)) (now (ciphertext .entry))) × (length r ≡ maxNt) ⌝ }
 {
     let h = gcm::hash_key(ctx);
-    let mut t = [0u8; 16];
+    let mut t = [0u8; MAX_NT];
     gcm::tag(ctx, &h, nonce, header, metadata, ciphertext, &mut t);
     t
 }
 
-// 16 bytes of which the first Nt are the suite's tag of a ciphertext.
+// MAX_NT bytes of which the first Nt are the suite's tag of a ciphertext.
 fn tag_of(
     suite: Suite,
     ctx: &aes::Context,
@@ -81,10 +86,10 @@ fn tag_of(
     header: &[u8],
     metadata: &[u8],
     ciphertext: &[u8],
-) -> [u8; 16]
+) -> [u8; MAX_NT]
     requires { ⌜ (Context (cipherKey suite (now key)) (now ctx)) × (length (now key) ≡ Nk suite) × (length (now nonce) ≡ Nn) ⌝ }
     requires { ⌜ (length (now header) ≤ maxBytes) × (length (now metadata) ≤ maxBytes) × (length (now ciphertext) ≤ maxBytes) ⌝ }
-    ensures { λ r. ⌜ (take (Nt suite) r ≡ tag suite (now (key .entry)) (now (nonce .entry)) (now (header .entry) ++ now (metadata .entry)) (now (ciphertext .entry))) × (length r ≡ 16) ⌝ }
+    ensures { λ r. ⌜ (take (Nt suite) r ≡ tag suite (now (key .entry)) (now (nonce .entry)) (now (header .entry) ++ now (metadata .entry)) (now (ciphertext .entry))) × (length r ≡ maxNt) ⌝ }
 {
     match suite.mode() {
         Mode::CtrHmac => {

@@ -1,28 +1,36 @@
 // Key derivation and the nonce: RFC 9605, sections 4.4.2 and 4.4.3.
 ghost use mathlib.Core.Path.{_≡_};
-ghost use Prim.Native.Nat.{_+_, _≤_};
+ghost use Prim.Native.Nat.{_≤_};
 ghost use lib.ListN.{length};
 ghost use Rattle.sha2.specs.Sizes.{sha256, sha512};
 ghost use Rattle.hmac.specs.Hkdf.{limit, expand};
 ghost use Rattle.hmac.specs.Running.{largest};
 ghost use Rattle.suites.specs.Suites.{Nk, Nn, hashOf};
-ghost use Rattle.suites.specs.Derivation.{secret, label, sframeKey, sframeSalt, nonce, secretKey, secretSalt};
+ghost use Rattle.suites.specs.Derivation.{secret, label, labelSize, maxText, sframeKey, sframeSalt, nonce, secretKey, secretSalt};
 use crate::sizes::Aes128CtrHmacSha256Tag80;
 use crate::sizes::Suite;
 use header::Ctr;
 use header::Kid;
 
-// The bytes of a label after its text: the KID and the suite's number.
+// The bytes of a label: its text, the KID and the suite's number.
+const KEY_TEXT_SIZE: usize = 22;
+
+const SALT_TEXT_SIZE: usize = 23;
+
 const KID_SIZE: usize = 8;
 
 const NUMBER_SIZE: usize = 2;
 
-// The bytes of the nonce and of the salt, the same in every suite.
+const KEY_LABEL_SIZE: usize = KEY_TEXT_SIZE + KID_SIZE + NUMBER_SIZE;
+
+const SALT_LABEL_SIZE: usize = SALT_TEXT_SIZE + KID_SIZE + NUMBER_SIZE;
+
+// The bytes of the nonce and of the salt: by the contract of `nonce_size`, the same in every suite.
 const NN: usize = Aes128CtrHmacSha256Tag80::NN;
 
 // Writes the label of a derivation: the text, the KID and the suite's number.
 fn write_label(out: &mut [u8], text: &[u8], suite: Suite, kid: Kid)
-    requires { ⌜ (length (now out) ≡ length (now text) + 10) × (length (now text) ≤ 32) ⌝ }
+    requires { ⌜ (length (now out) ≡ labelSize (now text)) × (length (now text) ≤ maxText) ⌝ }
     ensures { λ _. ⌜ now (out .exit) ≡ label (now (text .entry)) suite (kid .0) ⌝ }
 {
     let n = text.len();
@@ -32,18 +40,18 @@ fn write_label(out: &mut [u8], text: &[u8], suite: Suite, kid: Kid)
 }
 
 // The label of the key, and that of the salt.
-fn key_label(suite: Suite, kid: Kid) -> [u8; 32]
-    ensures { λ r. ⌜ (r ≡ label secretKey suite (kid .0)) × (length r ≡ 32) ⌝ }
+fn key_label(suite: Suite, kid: Kid) -> [u8; KEY_LABEL_SIZE]
+    ensures { λ r. ⌜ (r ≡ label secretKey suite (kid .0)) × (length r ≡ labelSize secretKey) ⌝ }
 {
-    let mut l = [0u8; 32];
+    let mut l = [0u8; KEY_LABEL_SIZE];
     write_label(&mut l, b"SFrame 1.0 Secret key ", suite, kid);
     l
 }
 
-fn salt_label(suite: Suite, kid: Kid) -> [u8; 33]
-    ensures { λ r. ⌜ (r ≡ label secretSalt suite (kid .0)) × (length r ≡ 33) ⌝ }
+fn salt_label(suite: Suite, kid: Kid) -> [u8; SALT_LABEL_SIZE]
+    ensures { λ r. ⌜ (r ≡ label secretSalt suite (kid .0)) × (length r ≡ labelSize secretSalt) ⌝ }
 {
-    let mut l = [0u8; 33];
+    let mut l = [0u8; SALT_LABEL_SIZE];
     write_label(&mut l, b"SFrame 1.0 Secret salt ", suite, kid);
     l
 }

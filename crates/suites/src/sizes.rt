@@ -1,6 +1,6 @@
 // Each suite as a type with its sizes in bytes (RFC 9605, Table 1), and all five as one enum.
 ghost use mathlib.Core.Path.{_≡_};
-ghost use Rattle.suites.specs.Suites.{suiteOf, numberOf, modeOf, cipherKeySize, Nk, Nt};
+ghost use Rattle.suites.specs.Suites.{suiteOf, numberOf, modeOf, cipherKeySize, Nk, Nn, Nt};
 
 // AES_128_CTR_HMAC_SHA256_80
 pub struct Aes128CtrHmacSha256Tag80;
@@ -133,6 +133,19 @@ impl Suite {
             Suite::Ctr32 => Aes128CtrHmacSha256Tag32::NK,
             Suite::Gcm128 => Aes128GcmSha256::NK,
             Suite::Gcm256 => Aes256GcmSha512::NK,
+        }
+    }
+
+    // Nn, the bytes of the nonce and of the salt.
+    pub fn nonce_size(self) -> usize
+        ensures { λ r. ⌜ r ≡ Nn ⌝ }
+    {
+        match self {
+            Suite::Ctr80 => Aes128CtrHmacSha256Tag80::NN,
+            Suite::Ctr64 => Aes128CtrHmacSha256Tag64::NN,
+            Suite::Ctr32 => Aes128CtrHmacSha256Tag32::NN,
+            Suite::Gcm128 => Aes128GcmSha256::NN,
+            Suite::Gcm256 => Aes256GcmSha512::NN,
         }
     }
 

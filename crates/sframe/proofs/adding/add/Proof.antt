@@ -4,11 +4,13 @@ use Prim.Native.Nat.{ℕ}
 use native.Mathlib.Omega.{arith}
 use borrow.Author.Needs.{needs}
 use Rattle.store.proofs.Addition.{add-unsound, add-suite, add-short, add-long, add-held, add-full, add-done}
+use Rattle.store.proofs.Suites.{suite-named, suite-unnamed}
 use Rattle.store.specs.Calls.{added}
 use Rattle.store.specs.Record.{encode}
 use Rattle.store.specs.Suites.{isSuite}
 use Rattle.sframe.specs.Sframe.{sframe}
-use Rattle.sframe.proofs.AddSteps.{suite-named, suite-unnamed, Free, free, free-inside, free-zeros}
+use Rattle.suites.proofs.Laws.{number-is}
+use Rattle.sframe.proofs.AddSteps.{Free, free, free-inside, free-zeros}
 use Rattle.sframe.proofs.SealSteps.{store-whole}
 use Rattle.sframe.proofs.adding.add.Statement.{statement}
 use Rattle.sframe.proofs.adding.add.Tie as tie
@@ -25,7 +27,7 @@ returns-2 c =
 
 -- the suite is one
 is-suite : (c : tie.After-known-told) → isSuite (c .before .before .before .before .before .before .before .before .before .args .suite) ≡ true
-is-suite c = suite-named (c .before .before .before .before .before .before .before .before .before .args .suite) _ (sym (c .before .before .before .find .ensures) ∙ c .before .known .given .1) .0
+is-suite c = suite-named (c .before .before .before .before .before .before .before .before .before .args .suite) _ (sym (c .before .before .before .find .ensures) ∙ c .before .known .given .1)
 
 returns-3 : tie.Need-returns-3
 returns-3 c =
@@ -72,7 +74,7 @@ fill-row-requires c κs = (free-zeros _ _ (free-at (c .before)) _ refl, c .befor
 returns-7 : tie.Need-returns-7
 returns-7 c =
     let a = c .before .before .before .before .before .before .before .before .before .before .before .before .before .before .before .before .before .before .before .before .before .before .before .before .args in
-    let n = suite-named (a .suite) _ (sym (c .before .before .before .before .before .before .before .before .before .before .before .before .before .before .before .before .before .before .find .ensures) ∙ c .before .before .before .before .before .before .before .before .before .before .before .before .before .before .before .before .known .given .1) .1 in
+    let n = number-is (a .suite) _ (sym (c .before .before .before .before .before .before .before .before .before .before .before .before .before .before .before .before .before .before .find .ensures) ∙ c .before .before .before .before .before .before .before .before .before .before .before .before .before .before .before .before .known .given .1) in
     add-done sframe (a .store .now) (a .role) (a .kid .0) (a .suite) (a .base .now) _ (c .before .before .before .before .before .before .before .before .before .before .before .before .before .before .before .before .before .before .before .before .is-sound .ensures) (c .before .before .before .before .before .before .before .before .before .before .before .before .before .before .before .before .before .before .before .if1 .left) (is-suite (c .before .before .before .before .before .before .before .before .before .before .before .before .before .before .before)) (c .before .before .before .before .before .before .before .before .before .before .before .before .before .before .if2 .left) (c .before .before .before .before .before .before .before .before .before .before .before .before .before .if3 .left) _ (c .before .before .before .before .before .before .before .before .before .before .before .find2 .ensures) (c .before .before .before .before .before .before .before .before .before .enum-told2 .given .1) _ (c .before .before .before .before .before .before .before .find-free .ensures) (λ j. omega (arith, c .before .before .before .before .before .before .before .before .before .before .before .before .before .before .before .before .before .before .before .before .before .before .before .slice-known .given j)) _ (c .before .before .before .before .before .i .given .1) _ _ _ refl refl (c .before .before .fill-row .ensures ∙ ap (λ (k : ℕ). encode (added sframe (a .role) (a .kid .0) k (a .base .now))) (sym n))
 
 pub add-spec : {M : Type 1} → statement M

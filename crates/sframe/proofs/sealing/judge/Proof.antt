@@ -33,14 +33,12 @@ add-if4-2 c = omega (arith, tag-told _ _ _ (c .before .suite-in .ensures) (c .ta
 returns-4 : tie.Need-returns-4
 returns-4 c =
     let a = c .before .before .before .before .before .before .before .before .before .before .before .before .before .before .before .before .before .args in
-    let known = sending-suite (a .row .now) (λ j. omega (arith, c .before .before .before .before .before .before .before .before .before .before .before .before .before .before .before .before .shared-slice-known .given j)) (c .before .before .before .before .before .before .before .before .before .before .before .before .before .before .before .before .before .pre .0) (c .before .before .before .before .before .before .before .before .before .before .before .before .before .before .before .before .before .pre .1) (c .before .before .before .before .before .before .before .before .before .before .before .if1 .left) in
-    judged-room (a .row .now) _ (a .metadata .now) (a .plaintext .now) (a .room .now) (c .before .before .before .before .before .before .before .before .before .before .before .if1 .left) _ (c .before .before .before .before .before .before .before .before .before .before .next-counter .ensures) (c .before .before .before .before .before .before .before .before .if2 .left) _ (c .before .before .before .before .before .before .before .too-long .ensures) (c .before .before .before .before .before .before .if3 .left) _ _ _ known (c .before .before .suite-in .ensures) (c .before .tag-size .ensures) (c .before .before .before .before .write-next .ensures .0 .0) (c .if4 .taken)
+    judged-room (a .row .now) _ (a .metadata .now) (a .plaintext .now) (a .room .now) (c .before .before .before .before .before .before .before .before .before .before .before .if1 .left) _ (c .before .before .before .before .before .before .before .before .before .before .next-counter .ensures) (c .before .before .before .before .before .before .before .before .if2 .left) _ (c .before .before .before .before .before .before .before .too-long .ensures) (c .before .before .before .before .before .before .if3 .left) _ _ _ (c .before .before .suite-in .ensures) (c .before .tag-size .ensures) (c .before .before .before .before .write-next .ensures .0 .0) (c .if4 .taken)
 
 returns-5 : tie.Need-returns-5
 returns-5 c =
     let a = c .before .before .before .before .before .before .before .before .before .before .before .before .before .before .before .before .before .args in
-    let known = sending-suite (a .row .now) (λ j. omega (arith, c .before .before .before .before .before .before .before .before .before .before .before .before .before .before .before .before .shared-slice-known .given j)) (c .before .before .before .before .before .before .before .before .before .before .before .before .before .before .before .before .before .pre .0) (c .before .before .before .before .before .before .before .before .before .before .before .before .before .before .before .before .before .pre .1) (c .before .before .before .before .before .before .before .before .before .before .before .if1 .left) in
-    judged-done (a .row .now) _ (a .metadata .now) (a .plaintext .now) (a .room .now) (c .before .before .before .before .before .before .before .before .before .before .before .if1 .left) _ (c .before .before .before .before .before .before .before .before .before .before .next-counter .ensures) (c .before .before .before .before .before .before .before .before .if2 .left) _ (c .before .before .before .before .before .before .before .too-long .ensures) (c .before .before .before .before .before .before .if3 .left) _ _ _ known (c .before .before .suite-in .ensures) (c .before .tag-size .ensures) (c .before .before .before .before .write-next .ensures .0 .0) (c .if4 .left)
+    judged-done (a .row .now) _ (a .metadata .now) (a .plaintext .now) (a .room .now) (c .before .before .before .before .before .before .before .before .before .before .before .if1 .left) _ (c .before .before .before .before .before .before .before .before .before .before .next-counter .ensures) (c .before .before .before .before .before .before .before .before .if2 .left) _ (c .before .before .before .before .before .before .before .too-long .ensures) (c .before .before .before .before .before .before .if3 .left) _ _ _ (c .before .before .suite-in .ensures) (c .before .tag-size .ensures) (c .before .before .before .before .write-next .ensures .0 .0) (c .if4 .left)
 
 pub judge-spec : {M : Type 1} → statement M
 judge-spec =
