@@ -30,11 +30,12 @@ firstCount Gcm = 2
 unfoldable pub ciphertext : Suite → List ℕ → List ℕ → List ℕ → List ℕ
 ciphertext s key nonce plaintext = ctr (cipherKey s key) nonce (firstCount (modeOf s)) plaintext
 
--- 4.5.1: the tag's input: the lengths of the associated data and of the ciphertext, and the tag's, in 8 bytes each; the
--- nonce, the associated data and the ciphertext.
+-- The bytes of a length in the tag's input.
 abbrev pub lengthSize : ℕ
 lengthSize = 8
 
+-- 4.5.1: the tag's input: the lengths of the associated data and of the ciphertext, and the tag's, in 8 bytes each; the
+-- nonce, the associated data and the ciphertext.
 unfoldable pub tagInput : ℕ → List ℕ → List ℕ → List ℕ → List ℕ
 tagInput nt nonce aad ciphertext =
     bytes lengthSize (length aad) ++ (bytes lengthSize (length ciphertext) ++ (bytes lengthSize nt ++ (nonce ++ (aad ++ ciphertext))))

@@ -22,20 +22,21 @@ secretSalt =
 unfoldable pub secret : Suite → List ℕ → List ℕ
 secret s base = extract (hashOf s) [] base
 
--- The label of a derivation: its text, the KID in 8 bytes, the suite in 2.
+-- The bytes of the KID and of the suite's number in a label.
 abbrev pub kidSize : ℕ
 kidSize = 8
 
 abbrev pub numberSize : ℕ
 numberSize = 2
 
+-- The label of a derivation: its text, the KID in 8 bytes, the suite in 2.
 unfoldable pub label : List ℕ → Suite → ℕ → List ℕ
 label text s kid = text ++ (bytes kidSize kid ++ bytes numberSize (numberOf s))
 
 abbrev pub labelSize : List ℕ → ℕ
 labelSize text = length text + (kidSize + numberSize)
 
--- No text is longer.
+-- No text of a label is longer.
 abbrev pub maxText : ℕ
 maxText = 32
 
