@@ -12,6 +12,7 @@ ghost use Rattle.suites.specs.Aead.{encrypt, decrypt, differs, isPlain, roomAft
 use header::Kid;
 use suites::Found;
 use suites::Suite;
+use suites::sizes::Aes128CtrHmacSha256Tag80;
 
 // The longest base key, and the longest of each other input.
 const MAX_BASE: usize = 64;
@@ -19,7 +20,7 @@ const MAX_BASE: usize = 64;
 const MAX_BYTES: usize = 65536;
 
 // The bytes of a salt and of a nonce.
-const NN: usize = 12;
+const NN: usize = Aes128CtrHmacSha256Tag80::NN;
 
 // The answer for a tag that differs.
 const TAG_DIFFERS: u32 = 13;

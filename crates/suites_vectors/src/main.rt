@@ -12,9 +12,10 @@ use libc::STDOUT_FILENO;
 use sframe_test::cipher_suites::sframe_test_derive;
 use sframe_test::cipher_suites::sframe_test_suite_decrypt;
 use sframe_test::cipher_suites::sframe_test_suite_encrypt;
+use suites::sizes::Aes128CtrHmacSha256Tag80;
 
 // The bytes of a salt and of a nonce.
-const NN: usize = 12;
+const NN: usize = Aes128CtrHmacSha256Tag80::NN;
 
 struct Tally {
     right: u64,
