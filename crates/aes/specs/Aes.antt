@@ -104,6 +104,10 @@ Nk key = length key / 4
 abbrev pub Nr : List ℕ → ℕ
 Nr key = Nk key + 6
 
+-- The most rounds: AES-256's.
+abbrev pub maxRounds : ℕ
+maxRounds = 14
+
 unfoldable pub keyExpansion : List ℕ → List ℕ
 keyExpansion key = expansion (Nk key) key (4 * (Nr key + 1))
 
@@ -111,14 +115,18 @@ keyExpansion key = expansion (Nk key) key (4 * (Nr key + 1))
 unfoldable pub encryptState : List ℕ → List ℕ → List ℕ
 encryptState key s = cipher (Nr key) (keyExpansion key) s
 
--- §3.4: a block of 16 bytes as a state, and back.
+-- The bytes of a block.
+abbrev pub blockSize : ℕ
+blockSize = 16
+
+-- §3.4: a block as a state, and back.
 unfoldable pub stateOf : List ℕ → List ℕ
 stateOf block = columns (λ c. number 4 (drop (4 * c) block))
 
 unfoldable pub blockOf : List ℕ → List ℕ
 blockOf s = bytes 4 (getD s 0 0) ++ (bytes 4 (getD s 1 0) ++ (bytes 4 (getD s 2 0) ++ bytes 4 (getD s 3 0)))
 
--- AES encryption of a block of 16 bytes.
+-- AES encryption of a block.
 unfoldable pub encrypt : List ℕ → List ℕ → List ℕ
 encrypt key block = blockOf (encryptState key (stateOf block))
 
