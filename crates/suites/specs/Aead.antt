@@ -21,7 +21,7 @@ cipherKey s key = take (cipherKeySize s) key
 abbrev pub authKey : List ℕ → List ℕ
 authKey key = drop Nka key
 
--- The block count of the first counter block. 4.5.1: the nonce, then 00000000. 4.5.2: GCM's data start at 2.
+-- The first block count. 4.5.1: the nonce, then 00000000. 4.5 with SP 800-38D §7.1: GCM's data start at 2.
 abbrev pub firstCount : Mode → ℕ
 firstCount CtrHmac = 0
 firstCount Gcm = 2

@@ -43,7 +43,7 @@ Nk Ctr32 = 48
 Nk Gcm128 = 16
 Nk Gcm256 = 32
 
--- How a suite encrypts and authenticates: AES-CTR with HMAC (4.5.1), or AES-GCM (4.5.2).
+-- How a suite encrypts and authenticates: AES-CTR with HMAC (4.5.1), or AES-GCM (4.5 with SP 800-38D).
 abbrev pub modeOf : Suite → Mode
 modeOf Ctr80 = CtrHmac
 modeOf Ctr64 = CtrHmac
