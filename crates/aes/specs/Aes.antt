@@ -2,13 +2,12 @@
 -- A word is a number below 2^32, its first byte the highest. A state is the list of its four columns, each a word.
 -- Assumes nothing.
 use mathlib.Core.Path.{_≡_}
-use mathlib.Core.Bool.{Bool, true, false}
 use mathlib.Core.List.{List, [], _∷_, _++_}
 use Prim.Native.Nat.{ℕ, zero, suc, _+_, _*_, _-_, _/_, _%_, _^_, _≤_, _<_}
 use lib.Bits.{bitXor}
 use lib.Dec.{eqb, ltb}
 use lib.ListN.{length, getD, drop}
-use Rattle.octets.specs.Octets.{number, bytes, both}
+use Rattle.octets.specs.Octets.{number, bytes, pick, both}
 use Rattle.aes.specs.Field.{xTimes, mul, sBox}
 
 -- The word of four bytes, and byte i of a word.
@@ -77,20 +76,16 @@ pub record RconTable (l : List ℕ) : Type 0 where
   pub sized : length l ≡ 10
   pub entry : (k : ℕ) → k < 10 → getD l k 0 ≡ xPower k
 
-abbrev pub choose : Bool → ℕ → ℕ → ℕ
-choose true a b = a
-choose false a b = b
-
 -- §5.2: what word i - 1 becomes before it is added to word i - Nk.
 unfoldable pub transformed : ℕ → ℕ → ℕ → ℕ
 transformed nk i w =
-    choose (eqb (i % nk) 0) (bitXor (subWord (rotWord w)) (rcon (i / nk)))
-    (choose (both (ltb 6 nk) (eqb (i % nk) 4)) (subWord w) w)
+    pick (eqb (i % nk) 0) (bitXor (subWord (rotWord w)) (rcon (i / nk)))
+    (pick (both (ltb 6 nk) (eqb (i % nk) 4)) (subWord w) w)
 
 -- §5.2: word i of the key schedule, after the words w before it.
 unfoldable pub nextWord : ℕ → List ℕ → ℕ → List ℕ → ℕ
 nextWord nk key i w =
-    choose (ltb i nk) (number 4 (drop (4 * i) key)) (bitXor (getD w (i - nk) 0) (transformed nk i (getD w (i - 1) 0)))
+    pick (ltb i nk) (number 4 (drop (4 * i) key)) (bitXor (getD w (i - nk) 0) (transformed nk i (getD w (i - 1) 0)))
 
 -- §5.2: KeyExpansion, the first n words of the key schedule.
 unfoldable pub expansion : ℕ → List ℕ → ℕ → List ℕ
@@ -104,6 +99,10 @@ Nk key = length key / 4
 abbrev pub Nr : List ℕ → ℕ
 Nr key = Nk key + 6
 
+-- The most rounds: AES-256's.
+abbrev pub maxRounds : ℕ
+maxRounds = 14
+
 unfoldable pub keyExpansion : List ℕ → List ℕ
 keyExpansion key = expansion (Nk key) key (4 * (Nr key + 1))
 
@@ -111,14 +110,18 @@ keyExpansion key = expansion (Nk key) key (4 * (Nr key + 1))
 unfoldable pub encryptState : List ℕ → List ℕ → List ℕ
 encryptState key s = cipher (Nr key) (keyExpansion key) s
 
--- §3.4: a block of 16 bytes as a state, and back.
+-- The bytes of a block.
+abbrev pub blockSize : ℕ
+blockSize = 16
+
+-- §3.4: a block as a state, and back.
 unfoldable pub stateOf : List ℕ → List ℕ
 stateOf block = columns (λ c. number 4 (drop (4 * c) block))
 
 unfoldable pub blockOf : List ℕ → List ℕ
 blockOf s = bytes 4 (getD s 0 0) ++ (bytes 4 (getD s 1 0) ++ (bytes 4 (getD s 2 0) ++ bytes 4 (getD s 3 0)))
 
--- AES encryption of a block of 16 bytes.
+-- AES encryption of a block.
 unfoldable pub encrypt : List ℕ → List ℕ → List ℕ
 encrypt key block = blockOf (encryptState key (stateOf block))
 

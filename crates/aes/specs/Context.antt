@@ -8,11 +8,20 @@ use lib.ListN.{length, getD, take}
 use Rattle.octets.specs.Octets.{bytes}
 use Rattle.aes.specs.declared.State.{State}
 use Rattle.aes.specs.Field.{mul, sBox}
-use Rattle.aes.specs.Aes.{word, Nr, keyExpansion, KeySize}
+use Rattle.aes.specs.Aes.{word, Nr, maxRounds, keyExpansion, KeySize}
 
--- The layout: the key schedule from 0 on, Nr at 60, the table of the rounds at 64 to 319.
+-- The layout: the key schedule from 0 on, Nr, the table of the rounds with an entry for each byte.
+abbrev pub roundsAt : ℕ
+roundsAt = 4 * (maxRounds + 1)
+
+abbrev pub tableAt : ℕ
+tableAt = 64
+
+abbrev pub entries : ℕ
+entries = 256
+
 abbrev pub size : ℕ
-size = 320
+size = tableAt + entries
 
 -- MixColumns of the column s, 0, 0, 0, and of SubBytes of x in the place of s.
 unfoldable pub mixedByte : ℕ → ℕ
@@ -24,11 +33,11 @@ mixed x = mixedByte (sBox x)
 -- The array is long enough and holds the table, as far as its first n entries.
 pub record Table (n : ℕ) (ctx : List ℕ) : Type 0 where
   pub sized : length ctx ≡ size
-  pub entry : (x : ℕ) → x < n → getD ctx (64 + x) 0 ≡ mixed x
+  pub entry : (x : ℕ) → x < n → getD ctx (tableAt + x) 0 ≡ mixed x
 
 -- The array holds the table and the key schedule, for as many rounds.
 pub record Filled (key ctx : List ℕ) (rounds : ℕ) : Type 0 where
-  pub table : Table 256 ctx
+  pub table : Table entries ctx
   pub schedule : take (4 * (Nr key + 1)) ctx ≡ keyExpansion key
   pub count : rounds ≡ Nr key
 
@@ -39,13 +48,13 @@ wordBytes (suc n) w = wordBytes n w ++ bytes 4 (getD w n 0)
 
 -- The key of which an array is the context: the first Nk words of the key schedule.
 unfoldable pub keyOf : List ℕ → List ℕ
-keyOf ctx = wordBytes (getD ctx 60 0 - 6) ctx
+keyOf ctx = wordBytes (getD ctx roundsAt 0 - 6) ctx
 
 -- This array is the context of that key.
 pub record Context (key ctx : List ℕ) : Type 0 where
-  pub table : Table 256 ctx
+  pub table : Table entries ctx
   pub keySize : KeySize (length key)
-  pub rounds : getD ctx 60 0 ≡ Nr key
+  pub rounds : getD ctx roundsAt 0 ≡ Nr key
   pub schedule : take (4 * (Nr key + 1)) ctx ≡ keyExpansion key
   pub keyed : keyOf ctx ≡ key
 

@@ -7,14 +7,31 @@ ghost use mathlib.Core.List.{_++_};
 ghost use Prim.Native.Nat.{_+_, _*_, _≤_, _<_};
 ghost use lib.ListN.{length, getD, take, drop};
 ghost use Rattle.octets.specs.Octets.{bytes, pasted};
-ghost use Rattle.aes.specs.Aes.{KeySize, addRoundKey, mixColumns, shiftRows, subBytes, rounds, encryptState, stateOf, blockOf, encrypt};
-ghost use Rattle.aes.specs.Context.{Table, Context, Ready, keyOf, listOf};
+ghost use Rattle.aes.specs.Aes.{KeySize, blockSize, maxRounds, addRoundKey, mixColumns, shiftRows, subBytes, rounds, encryptState, stateOf, blockOf, encrypt};
+ghost use Rattle.aes.specs.Context.{size, entries, Table, Context, Ready, keyOf, listOf};
 
 mod schedule;
 mod table;
 
+// The bytes of a block.
+pub const BLOCK: usize = 16;
+
+// The rounds of the longest key.
+const MAX_ROUNDS: usize = 14;
+
+// Where the number of rounds stands in a context: behind the longest key schedule.
+const ROUNDS_AT: usize = 4 * (MAX_ROUNDS + 1);
+
+// Where the table of the rounds starts, and its entries, one for each byte.
+const TABLE_AT: usize = 64;
+
+const ENTRIES: usize = 256;
+
+// The words of a context.
+const CONTEXT_SIZE: usize = TABLE_AT + ENTRIES;
+
 // The context of a key: the key schedule, the number of rounds, and the table of the rounds.
-pub type Context = [u32; 320];
+pub type Context = [u32; CONTEXT_SIZE];
 
 // The state: four columns, each a word whose first byte is the highest.
 pub struct State {
@@ -29,16 +46,16 @@ pub fn expand(key: &[u8]) -> Context
     requires { ⌜ KeySize (length (now key)) ⌝ }
     ensures { λ r. ⌜ Context (now (key .entry)) r ⌝ }
 {
-    let mut ctx = [0u32; 320];
+    let mut ctx = [0u32; CONTEXT_SIZE];
     table::fill(&mut ctx);
     let rounds = schedule::fill(&mut ctx, key);
-    ctx[60] = rounds;
+    ctx[ROUNDS_AT] = rounds;
     ctx
 }
 
 // AddRoundKey of round r.
 fn add_round_key(ctx: &Context, s: State, r: usize) -> State
-    requires { ⌜ (length (now ctx) ≡ 320) × (r ≤ 14) ⌝ }
+    requires { ⌜ (length (now ctx) ≡ size) × (r ≤ maxRounds) ⌝ }
     ensures { λ t. ⌜ listOf t ≡ addRoundKey (now (ctx .entry)) r (listOf s) ⌝ }
 {
     State {
@@ -51,7 +68,7 @@ fn add_round_key(ctx: &Context, s: State, r: usize) -> State
 
 // SubBytes, ShiftRows and MixColumns.
 fn mix(ctx: &Context, s: State) -> State
-    requires { ⌜ Table 256 (now ctx) ⌝ }
+    requires { ⌜ Table entries (now ctx) ⌝ }
     ensures { λ t. ⌜ listOf t ≡ mixColumns (shiftRows (subBytes (listOf s))) ⌝ }
 {
     State {
@@ -64,7 +81,7 @@ fn mix(ctx: &Context, s: State) -> State
 
 // SubBytes and ShiftRows.
 fn shift(ctx: &Context, s: State) -> State
-    requires { ⌜ Table 256 (now ctx) ⌝ }
+    requires { ⌜ Table entries (now ctx) ⌝ }
     ensures { λ t. ⌜ listOf t ≡ shiftRows (subBytes (listOf s)) ⌝ }
 {
     State {
@@ -80,7 +97,7 @@ pub fn encrypt(ctx: &Context, s: State) -> State
     requires { ⌜ Ready (now ctx) ⌝ }
     ensures { λ t. ⌜ listOf t ≡ encryptState (keyOf (now (ctx .entry))) (listOf s) ⌝ }
 {
-    let n = ctx[60] as usize;
+    let n = ctx[ROUNDS_AT] as usize;
     let mut t = add_round_key(ctx, s, 0);
     let mut r = 0;
     while r + 1 < n {
@@ -92,7 +109,7 @@ pub fn encrypt(ctx: &Context, s: State) -> State
 
 // The state of a block of 16 bytes, and back.
 pub fn load(block: &[u8]) -> State
-    requires { ⌜ 16 ≤ length (now block) ⌝ }
+    requires { ⌜ blockSize ≤ length (now block) ⌝ }
     ensures { λ t. ⌜ listOf t ≡ stateOf (now (block .entry)) ⌝ }
 {
     State {
@@ -104,8 +121,8 @@ pub fn load(block: &[u8]) -> State
 }
 
 pub fn store(out: &mut [u8], s: State)
-    requires { ⌜ 16 ≤ length (now out) ⌝ }
-    ensures { λ _. ⌜ now (out .exit) ≡ blockOf (listOf s) ++ drop 16 (now (out .entry)) ⌝ }
+    requires { ⌜ blockSize ≤ length (now out) ⌝ }
+    ensures { λ _. ⌜ now (out .exit) ≡ blockOf (listOf s) ++ drop blockSize (now (out .entry)) ⌝ }
 {
     put(out, 0, s.c0);
     put(out, 4, s.c1);
@@ -124,8 +141,8 @@ fn put(out: &mut [u8], i: usize, w: u32)
 // Writes the encryption of the 16 bytes of block to the front of out.
 pub fn encrypt_block(ctx: &Context, block: &[u8], out: &mut [u8])
     requires { ⌜ Ready (now ctx) ⌝ }
-    requires { ⌜ (length (now block) ≡ 16) × (16 ≤ length (now out)) ⌝ }
-    ensures { λ _. ⌜ now (out .exit) ≡ encrypt (keyOf (now (ctx .entry))) (now (block .entry)) ++ drop 16 (now (out .entry)) ⌝ }
+    requires { ⌜ (length (now block) ≡ blockSize) × (blockSize ≤ length (now out)) ⌝ }
+    ensures { λ _. ⌜ now (out .exit) ≡ encrypt (keyOf (now (ctx .entry))) (now (block .entry)) ++ drop blockSize (now (out .entry)) ⌝ }
 {
     store(out, encrypt(ctx, load(block)));
 }

@@ -1,9 +1,10 @@
 // The key schedule (FIPS 197 §5.2).
+use crate::Context;
 ghost use mathlib.Core.Path.{_≡_};
 ghost use Prim.Native.Nat.{_+_, _*_, _-_, _/_, _%_, _≤_, _<_};
 ghost use lib.ListN.{length, getD, take};
 ghost use Rattle.aes.specs.Aes.{KeySize, Nk, Nr, rcon, RconTable, rotWord, subWord, transformed, nextWord, keyExpansion};
-ghost use Rattle.aes.specs.Context.{Table, Filled};
+ghost use Rattle.aes.specs.Context.{entries, Table, Filled};
 
 // FIPS 197 §5.2, Table 5: the first bytes of the round constants.
 const RCON: [u8; 10] = [0x01, 0x02, 0x04, 0x08, 0x10, 0x20, 0x40, 0x80, 0x1b, 0x36];
@@ -25,8 +26,8 @@ fn round_constant(j: usize) -> u32
 }
 
 // What word i - 1, which is w, becomes before it is added to word i - nk.
-fn transform(ctx: &[u32; 320], nk: usize, i: usize, w: u32) -> u32
-    requires { ⌜ Table 256 (now ctx) ⌝ }
+fn transform(ctx: &Context, nk: usize, i: usize, w: u32) -> u32
+    requires { ⌜ Table entries (now ctx) ⌝ }
     requires { ⌜ (4 ≤ nk) × (nk ≤ i) × (i < 11 * nk) ⌝ }
     ensures { λ r. ⌜ r ≡ transformed nk i w ⌝ }
 {
@@ -45,8 +46,8 @@ fn transform(ctx: &[u32; 320], nk: usize, i: usize, w: u32) -> u32
 }
 
 // Word i of the key schedule, where the words before it stand in ctx.
-fn next(ctx: &[u32; 320], key: &[u8], i: usize) -> u32
-    requires { ⌜ Table 256 (now ctx) ⌝ }
+fn next(ctx: &Context, key: &[u8], i: usize) -> u32
+    requires { ⌜ Table entries (now ctx) ⌝ }
     requires { ⌜ KeySize (length (now key)) ⌝ }
     requires { ⌜ i < 4 * (Nr (now key) + 1) ⌝ }
     ensures { λ r. ⌜ r ≡ nextWord (Nk (now (key .entry))) (now (key .entry)) i (take i (now (ctx .entry))) ⌝ }
@@ -59,8 +60,8 @@ fn next(ctx: &[u32; 320], key: &[u8], i: usize) -> u32
 }
 
 // Fills the key schedule; the result is the number of rounds.
-pub fn fill(ctx: &mut [u32; 320], key: &[u8]) -> u32
-    requires { ⌜ Table 256 (now ctx) ⌝ }
+pub fn fill(ctx: &mut Context, key: &[u8]) -> u32
+    requires { ⌜ Table entries (now ctx) ⌝ }
     requires { ⌜ KeySize (length (now key)) ⌝ }
     ensures { λ r. ⌜ Filled (now (key .entry)) (now (ctx .exit)) r ⌝ }
 {

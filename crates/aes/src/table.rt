@@ -1,13 +1,16 @@
 // The S-box, and the table by which a round works: for each byte, what SubBytes and MixColumns make of it.
+use crate::Context;
+use crate::ENTRIES;
+use crate::TABLE_AT;
 ghost use mathlib.Core.Path.{_≡_};
 ghost use Prim.Native.Nat.{_+_};
 ghost use lib.ListN.{length};
 ghost use Rattle.aes.specs.Field.{xTimes, sBox, SBoxTable};
 ghost use Rattle.aes.specs.Aes.{word, byte, mixColumn};
-ghost use Rattle.aes.specs.Context.{Table, mixedByte, mixed};
+ghost use Rattle.aes.specs.Context.{size, entries, Table, mixedByte, mixed};
 
 // FIPS 197 §5.1.1, Table 4.
-const SBOX: [u8; 256] = [
+const SBOX: [u8; ENTRIES] = [
     0x63,
     0x7c,
     0x77,
@@ -267,7 +270,7 @@ const SBOX: [u8; 256] = [
 ];
 
 // The S-box as an array, of which each entry is the affine map of the inverse.
-fn s_box() -> [u8; 256]
+fn s_box() -> [u8; ENTRIES]
     ensures { λ r. ⌜ SBoxTable r ⌝ }
 {
     SBOX
@@ -297,37 +300,37 @@ fn entry_of(s: u8) -> u32
 }
 
 // Fills the table.
-pub fn fill(ctx: &mut [u32; 320])
-    requires { ⌜ length (now ctx) ≡ 320 ⌝ }
-    ensures { λ _. ⌜ Table 256 (now (ctx .exit)) ⌝ }
+pub fn fill(ctx: &mut Context)
+    requires { ⌜ length (now ctx) ≡ size ⌝ }
+    ensures { λ _. ⌜ Table entries (now (ctx .exit)) ⌝ }
 {
     let s = s_box();
     let mut x = 0;
-    while x < 256 {
-        ctx[64 + x] = entry_of(s[x]);
+    while x < ENTRIES {
+        ctx[TABLE_AT + x] = entry_of(s[x]);
         x += 1;
     }
 }
 
 // The table's entry for x.
-fn entry(ctx: &[u32; 320], x: u8) -> u32
-    requires { ⌜ Table 256 (now ctx) ⌝ }
+fn entry(ctx: &Context, x: u8) -> u32
+    requires { ⌜ Table entries (now ctx) ⌝ }
     ensures { λ r. ⌜ r ≡ mixed x ⌝ }
 {
-    ctx[64 + x as usize]
+    ctx[TABLE_AT + x as usize]
 }
 
 // The S-box's entry for x, the second byte of the table's.
-fn sub(ctx: &[u32; 320], x: u8) -> u8
-    requires { ⌜ Table 256 (now ctx) ⌝ }
+fn sub(ctx: &Context, x: u8) -> u8
+    requires { ⌜ Table entries (now ctx) ⌝ }
     ensures { λ r. ⌜ r ≡ sBox x ⌝ }
 {
     (entry(ctx, x) / 256 % 256) as u8
 }
 
 // SubBytes and MixColumns of the column that ShiftRows makes of a, b, c and d.
-pub fn mixed(ctx: &[u32; 320], a: u32, b: u32, c: u32, d: u32) -> u32
-    requires { ⌜ Table 256 (now ctx) ⌝ }
+pub fn mixed(ctx: &Context, a: u32, b: u32, c: u32, d: u32) -> u32
+    requires { ⌜ Table entries (now ctx) ⌝ }
     ensures { λ r. ⌜ r ≡ mixColumn (sBox (byte 0 a)) (sBox (byte 1 b)) (sBox (byte 2 c)) (sBox (byte 3 d)) ⌝ }
 {
     let p = entry(ctx, (a / 0x100_0000 % 256) as u8);
@@ -341,8 +344,8 @@ pub fn mixed(ctx: &[u32; 320], a: u32, b: u32, c: u32, d: u32) -> u32
 }
 
 // SubBytes of the column that ShiftRows makes of a, b, c and d.
-pub fn substituted(ctx: &[u32; 320], a: u32, b: u32, c: u32, d: u32) -> u32
-    requires { ⌜ Table 256 (now ctx) ⌝ }
+pub fn substituted(ctx: &Context, a: u32, b: u32, c: u32, d: u32) -> u32
+    requires { ⌜ Table entries (now ctx) ⌝ }
     ensures { λ r. ⌜ r ≡ word (sBox (byte 0 a)) (sBox (byte 1 b)) (sBox (byte 2 c)) (sBox (byte 3 d)) ⌝ }
 {
     let p = sub(ctx, (a / 0x100_0000 % 256) as u8);

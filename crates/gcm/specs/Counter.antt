@@ -2,10 +2,14 @@
 -- and GCM (SP 800-38D §6.5) both have them.
 -- Assumes nothing.
 use mathlib.Core.List.{List, [], _++_}
-use Prim.Native.Nat.{ℕ, zero, suc, _+_, _/_, _^_}
+use Prim.Native.Nat.{ℕ, zero, suc, _+_, _-_, _/_, _^_}
 use lib.ListN.{length}
 use Rattle.octets.specs.Octets.{bytes, xors}
-use Rattle.aes.specs.Aes.{encrypt}
+use Rattle.aes.specs.Aes.{blockSize, encrypt}
+
+-- The bytes of a nonce.
+abbrev pub nonceSize : ℕ
+nonceSize = 12
 
 -- The counter block: the nonce, then the block count, big-endian.
 unfoldable pub counterBlock : List ℕ → ℕ → List ℕ
@@ -17,7 +21,7 @@ counts = 2 ^ 32
 
 -- How many blocks n bytes take, the last one counted whole.
 abbrev pub blocks : ℕ → ℕ
-blocks n = (n + 15) / 16
+blocks n = (n + (blockSize - 1)) / blockSize
 
 -- The key stream: n encrypted counter blocks, from the given block count on.
 unfoldable pub keyStream : List ℕ → List ℕ → ℕ → ℕ → List ℕ

@@ -5,7 +5,7 @@ use Prim.Native.Nat.{ℕ, _*_}
 use lib.Bits.{bitXor}
 use lib.ListN.{length, replicate}
 use Rattle.octets.specs.Octets.{number, bytes, xors}
-use Rattle.aes.specs.Aes.{encrypt}
+use Rattle.aes.specs.Aes.{blockSize, encrypt}
 use Rattle.gcm.specs.Counter.{counterBlock, ctr}
 use Rattle.gcm.specs.Ghash.{pair, product, absorb}
 
@@ -15,17 +15,21 @@ maxBytes = 65536
 
 -- Step 1: the hash key, the encryption of the block of zeros.
 unfoldable pub hashKey : List ℕ → ℕ
-hashKey key = number 16 (encrypt key (replicate 16 0))
+hashKey key = number blockSize (encrypt key (replicate blockSize 0))
 
 -- Step 5: GHASH over the associated data, the ciphertext, and the block of their lengths in bits.
 unfoldable pub hash : ℕ → List ℕ → List ℕ → ℕ
 hash h aad ciphertext =
     product (bitXor (absorb h (absorb h 0 aad) ciphertext) (pair (8 * length aad) (8 * length ciphertext))) h
 
+-- The bytes of a tag: a whole block.
+abbrev pub tagSize : ℕ
+tagSize = blockSize
+
 -- Steps 2 and 6: the tag. Block count 1 masks it.
 unfoldable pub gcmTag : List ℕ → List ℕ → List ℕ → List ℕ → List ℕ
 gcmTag key nonce aad ciphertext =
-    xors (bytes 16 (hash (hashKey key) aad ciphertext)) (encrypt key (counterBlock nonce 1))
+    xors (bytes tagSize (hash (hashKey key) aad ciphertext)) (encrypt key (counterBlock nonce 1))
 
 -- Step 3: the ciphertext. The data start at block count 2.
 unfoldable pub gcmCiphertext : List ℕ → List ℕ → List ℕ → List ℕ

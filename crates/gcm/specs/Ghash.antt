@@ -6,6 +6,7 @@ use Prim.Native.Nat.{ℕ, zero, suc, _+_, _*_, _/_, _%_, _^_, _<_}
 use lib.Bits.{bitXor}
 use lib.ListN.{length, getD, drop}
 use Rattle.octets.specs.Octets.{number}
+use Rattle.aes.specs.Aes.{blockSize}
 use Rattle.gcm.specs.declared.ghash.Block.{Block}
 use Rattle.gcm.specs.Counter.{blocks}
 
@@ -29,7 +30,7 @@ product x y = sum 128 x y
 -- §6.4: GHASH under h, from y on, over the first n blocks of l, the last one filled up with zeros.
 unfoldable pub absorbBlocks : ℕ → ℕ → List ℕ → ℕ → ℕ
 absorbBlocks h y l zero = y
-absorbBlocks h y l (suc n) = product (bitXor (absorbBlocks h y l n) (number 16 (drop (16 * n) l))) h
+absorbBlocks h y l (suc n) = product (bitXor (absorbBlocks h y l n) (number blockSize (drop (blockSize * n) l))) h
 
 -- §6.4: GHASH under h, from y on, over all of l.
 unfoldable pub absorb : ℕ → ℕ → List ℕ → ℕ
@@ -42,18 +43,21 @@ pair hi lo = hi * 2 ^ 64 + lo
 abbrev pub valueOf : Block → ℕ
 valueOf b = pair (b .hi) (b .lo)
 
--- The context of a hash key: for each four bits, their product with the key. The high halves stand at 0 to 15, the low
--- halves at 16 to 31. What follows is for this crate alone: others cite `HashKey` and never a field.
+-- The context of a hash key: a table that has for each four bits their product with the key, all high halves before all
+-- low ones. What follows is for this crate alone: others cite `HashKey` and never a field.
+abbrev pub entries : ℕ
+entries = 16
+
 abbrev pub entryAt : List ℕ → ℕ → ℕ
-entryAt t n = pair (getD t n 0) (getD t (16 + n) 0)
+entryAt t n = pair (getD t n 0) (getD t (entries + n) 0)
 
 -- This array is the context of the hash key h, as far as its first n entries.
 pub record Entries (h n : ℕ) (t : List ℕ) : Type 0 where
-  pub sized : length t ≡ 32
+  pub sized : length t ≡ 2 * entries
   pub entry : (k : ℕ) → k < n → entryAt t k ≡ sum 4 k h
 
 abbrev pub HashKey : ℕ → List ℕ → Type 0
-HashKey h t = Entries h 16 t
+HashKey h t = Entries h entries t
 
 -- The hash key of which an array is the context.
 abbrev pub hashKeyOf : List ℕ → ℕ

@@ -1,16 +1,17 @@
 // Counter mode over AES: a key stream of encrypted counter blocks, XORed with the data.
+use aes::BLOCK;
 ghost use mathlib.Core.Path.{_≡_};
 ghost use mathlib.Core.List.{_++_};
 ghost use Prim.Native.Nat.{_+_, _≤_, _<_, min};
 ghost use lib.ListN.{length};
 ghost use Rattle.octets.specs.Octets.{xors};
-ghost use Rattle.aes.specs.Aes.{stateOf, blockOf, encryptState, encrypt};
+ghost use Rattle.aes.specs.Aes.{blockSize, stateOf, blockOf, encryptState, encrypt};
 ghost use Rattle.aes.specs.Context.{Ready, keyOf, listOf};
-ghost use Rattle.gcm.specs.Counter.{counterBlock, counts, blocks, ctr};
+ghost use Rattle.gcm.specs.Counter.{nonceSize, counterBlock, counts, blocks, ctr};
 
 // The counter block of a nonce and a block count.
 fn block(nonce: &[u8], count: u32) -> aes::State
-    requires { ⌜ length (now nonce) ≡ 12 ⌝ }
+    requires { ⌜ length (now nonce) ≡ nonceSize ⌝ }
     ensures { λ r. ⌜ listOf r ≡ stateOf (counterBlock (now (nonce .entry)) count) ⌝ }
 {
     aes::State {
@@ -21,9 +22,9 @@ fn block(nonce: &[u8], count: u32) -> aes::State
     }
 }
 
-// Writes input XOR the block s, 16 bytes of each.
+// Writes input, of a whole block, XOR the block s.
 fn xor_whole(s: aes::State, input: &[u8], out: &mut [u8])
-    requires { ⌜ (length (now input) ≡ 16) × (length (now out) ≡ 16) ⌝ }
+    requires { ⌜ (length (now input) ≡ blockSize) × (length (now out) ≡ blockSize) ⌝ }
     ensures { λ _. ⌜ now (out .exit) ≡ xors (now (input .entry)) (blockOf (listOf s)) ⌝ }
 {
     let d = aes::load(input);
@@ -36,26 +37,26 @@ fn xor_whole(s: aes::State, input: &[u8], out: &mut [u8])
     aes::store(out, t);
 }
 
-// Writes input, of at most 16 bytes, XOR as many bytes of the block s.
+// Writes input, of at most a block, XOR as many bytes of the block s.
 fn xor_part(s: aes::State, input: &[u8], out: &mut [u8])
-    requires { ⌜ (length (now input) ≤ 16) × (length (now out) ≡ length (now input)) ⌝ }
+    requires { ⌜ (length (now input) ≤ blockSize) × (length (now out) ≡ length (now input)) ⌝ }
     ensures { λ _. ⌜ now (out .exit) ≡ xors (now (input .entry)) (blockOf (listOf s)) ⌝ }
 {
-    let mut mask = [0u8; 16];
+    let mut mask = [0u8; BLOCK];
     aes::store(&mut mask, s);
     octets::copy(out, input);
     octets::xor(out, &mask);
 }
 
-// Writes input, of at most 16 bytes, XOR the encrypted counter block of a nonce and a block count.
+// Writes input, of at most a block, XOR the encrypted counter block of a nonce and a block count.
 pub fn xor_block(ctx: &aes::Context, nonce: &[u8], count: u32, input: &[u8], out: &mut [u8])
     requires { ⌜ Ready (now ctx) ⌝ }
-    requires { ⌜ length (now nonce) ≡ 12 ⌝ }
-    requires { ⌜ (length (now input) ≤ 16) × (length (now out) ≡ length (now input)) ⌝ }
+    requires { ⌜ length (now nonce) ≡ nonceSize ⌝ }
+    requires { ⌜ (length (now input) ≤ blockSize) × (length (now out) ≡ length (now input)) ⌝ }
     ensures { λ _. ⌜ now (out .exit) ≡ xors (now (input .entry)) (encrypt (keyOf (now (ctx .entry))) (counterBlock (now (nonce .entry)) count)) ⌝ }
 {
     let s = aes::encrypt(ctx, block(nonce, count));
-    if input.len() == 16 {
+    if input.len() == BLOCK {
         xor_whole(s, input, out);
     } else {
         xor_part(s, input, out);
@@ -65,18 +66,18 @@ pub fn xor_block(ctx: &aes::Context, nonce: &[u8], count: u32, input: &[u8], out
 // Where the block that starts at index i ends, of n bytes.
 fn next(i: usize, n: usize) -> usize
     requires { ⌜ i < n ⌝ }
-    ensures { λ r. ⌜ r ≡ min (i + 16) n ⌝ }
+    ensures { λ r. ⌜ r ≡ min (i + blockSize) n ⌝ }
 {
-    if n - i < 16 {
+    if n - i < BLOCK {
         return n;
     }
-    i + 16
+    i + BLOCK
 }
 
 // Writes input XOR the key stream that starts at the block count.
 pub fn apply(ctx: &aes::Context, nonce: &[u8], count: u32, input: &[u8], out: &mut [u8])
     requires { ⌜ Ready (now ctx) ⌝ }
-    requires { ⌜ length (now nonce) ≡ 12 ⌝ }
+    requires { ⌜ length (now nonce) ≡ nonceSize ⌝ }
     requires { ⌜ length (now out) ≡ length (now input) ⌝ }
     requires { ⌜ count + blocks (length (now input)) < counts ⌝ }
     ensures { λ _. ⌜ now (out .exit) ≡ ctr (keyOf (now (ctx .entry))) (now (nonce .entry)) count (now (input .entry)) ⌝ }

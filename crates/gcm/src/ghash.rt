@@ -1,14 +1,25 @@
 // GHASH (SP 800-38D §6.4), four bits at a time, by a table that is made once for each hash key.
+use aes::BLOCK;
 ghost use mathlib.Core.Path.{_≡_};
 ghost use mathlib.Core.List.{_++_};
 ghost use Prim.Native.Nat.{_+_, _*_, _/_, _^_, _≤_, _<_};
 ghost use lib.Bits.{bitXor};
 ghost use lib.ListN.{length, getD, drop};
 ghost use Rattle.octets.specs.Octets.{number, bytes};
-ghost use Rattle.gcm.specs.Ghash.{pair, valueOf, halve, sum, product, absorb, Entries, HashKey, hashKeyOf};
+ghost use Rattle.aes.specs.Aes.{blockSize};
+ghost use Rattle.gcm.specs.Ghash.{pair, valueOf, halve, sum, product, absorb, entries, Entries, HashKey, hashKeyOf};
 
-// The context of a hash key.
-pub type HashKey = [u64; 32];
+// The entries of the table, one for each four bits.
+const ENTRIES: usize = 16;
+
+// The words of the table, two for each entry.
+const TABLE_SIZE: usize = 2 * ENTRIES;
+
+// The groups of four bits in a block.
+const NIBBLES: usize = 2 * BLOCK;
+
+// The context of a hash key: the table, all high halves before all low ones.
+pub type HashKey = [u64; TABLE_SIZE];
 
 // A block, in two halves.
 pub struct Block {
@@ -75,7 +86,7 @@ fn scaled(bit: u64, b: Block) -> Block
 
 // The sum of the blocks b and halves of it, over the four bits of n.
 fn entry_of(n: u64, h: Block) -> Block
-    requires { ⌜ n < 16 ⌝ }
+    requires { ⌜ n < entries ⌝ }
     ensures { λ r. ⌜ valueOf r ≡ sum 4 n (valueOf h) ⌝ }
 {
     let h2 = half(h);
@@ -94,12 +105,12 @@ fn entry_of(n: u64, h: Block) -> Block
 pub fn expand(h: Block) -> HashKey
     ensures { λ r. ⌜ HashKey (valueOf h) r ⌝ }
 {
-    let mut t = [0u64; 32];
+    let mut t = [0u64; TABLE_SIZE];
     let mut n = 0;
-    while n < 16 {
+    while n < ENTRIES {
         let e = entry_of(n as u64, h);
         t[n] = e.hi;
-        t[16 + n] = e.lo;
+        t[ENTRIES + n] = e.lo;
         n += 1;
     }
     t
@@ -108,12 +119,12 @@ pub fn expand(h: Block) -> HashKey
 // The entry for the four bits n.
 fn entry(t: &HashKey, n: usize) -> Block
     requires { ⌜ HashKey (hashKeyOf (now t)) (now t) ⌝ }
-    requires { ⌜ n < 16 ⌝ }
+    requires { ⌜ n < entries ⌝ }
     ensures { λ r. ⌜ valueOf r ≡ sum 4 n (hashKeyOf (now (t .entry))) ⌝ }
 {
     Block {
         hi: t[n],
-        lo: t[16 + n],
+        lo: t[ENTRIES + n],
     }
 }
 
@@ -125,7 +136,7 @@ pub fn times(t: &HashKey, x: Block) -> Block
     let mut rest = x;
     let mut z = Block { hi: 0, lo: 0 };
     let mut i: usize = 0;
-    while i < 32 {
+    while i < NIBBLES {
         let n = (rest.lo % 16) as usize;
         z = plus(entry(t, n), half_four(z));
         rest = shift_four(rest);
@@ -134,14 +145,14 @@ pub fn times(t: &HashKey, x: Block) -> Block
     z
 }
 
-// The 16 bytes at index i of a and then b, filled up with zeros.
-fn gather(a: &[u8], b: &[u8], i: usize) -> [u8; 16]
+// The bytes of the block at index i of a and then b, filled up with zeros.
+fn gather(a: &[u8], b: &[u8], i: usize) -> [u8; BLOCK]
     requires { ⌜ (i < length (now a) + length (now b)) × (length (now a) + length (now b) < 2 ^ 32) ⌝ }
-    ensures { λ r. ⌜ number 16 r ≡ number 16 (drop i (now (a .entry) ++ now (b .entry))) ⌝ }
+    ensures { λ r. ⌜ number blockSize r ≡ number blockSize (drop i (now (a .entry) ++ now (b .entry))) ⌝ }
 {
-    let mut out = [0u8; 16];
+    let mut out = [0u8; BLOCK];
     let mut k = 0;
-    while k < 16 {
+    while k < BLOCK {
         out[k] = at(a, b, i + k);
         k += 1;
     }
@@ -162,10 +173,10 @@ fn at(a: &[u8], b: &[u8], i: usize) -> u8
     0
 }
 
-// The block of 16 bytes.
+// The block at the front of b.
 pub fn load(b: &[u8]) -> Block
-    requires { ⌜ 16 ≤ length (now b) ⌝ }
-    ensures { λ r. ⌜ valueOf r ≡ number 16 (now (b .entry)) ⌝ }
+    requires { ⌜ blockSize ≤ length (now b) ⌝ }
+    ensures { λ r. ⌜ valueOf r ≡ number blockSize (now (b .entry)) ⌝ }
 {
     Block {
         hi: octets::read_be64(b),
@@ -173,10 +184,10 @@ pub fn load(b: &[u8]) -> Block
     }
 }
 
-// Writes a block as 16 bytes to the front of out.
+// Writes a block to the front of out.
 pub fn store(out: &mut [u8], b: Block)
-    requires { ⌜ 16 ≤ length (now out) ⌝ }
-    ensures { λ _. ⌜ now (out .exit) ≡ bytes 16 (valueOf b) ++ drop 16 (now (out .entry)) ⌝ }
+    requires { ⌜ blockSize ≤ length (now out) ⌝ }
+    ensures { λ _. ⌜ now (out .exit) ≡ bytes blockSize (valueOf b) ++ drop blockSize (now (out .entry)) ⌝ }
 {
     octets::write_be64(out, b.hi);
     octets::write_be64(&mut out[8..], b.lo);
@@ -185,10 +196,10 @@ pub fn store(out: &mut [u8], b: Block)
 // The block at index i of a and then b, filled up with zeros.
 fn padded(a: &[u8], b: &[u8], i: usize) -> Block
     requires { ⌜ (i < length (now a) + length (now b)) × (length (now a) + length (now b) < 2 ^ 32) ⌝ }
-    ensures { λ r. ⌜ valueOf r ≡ number 16 (drop i (now (a .entry) ++ now (b .entry))) ⌝ }
+    ensures { λ r. ⌜ valueOf r ≡ number blockSize (drop i (now (a .entry) ++ now (b .entry))) ⌝ }
 {
     if i < a.len() {
-        if 16 <= a.len() - i {
+        if BLOCK <= a.len() - i {
             return load(&a[i..]);
         }
     }
@@ -202,11 +213,11 @@ pub fn absorb(t: &HashKey, y: Block, a: &[u8], b: &[u8]) -> Block
     requires { ⌜ length (now a) + length (now b) < 2 ^ 32 ⌝ }
     ensures { λ r. ⌜ valueOf r ≡ absorb (hashKeyOf (now (t .entry))) (valueOf y) (now (a .entry) ++ now (b .entry)) ⌝ }
 {
-    let n = (a.len() + b.len() + 15) / 16;
+    let n = (a.len() + b.len() + (BLOCK - 1)) / BLOCK;
     let mut z = y;
     let mut i = 0;
     while i < n {
-        z = times(t, plus(z, padded(a, b, 16 * i)));
+        z = times(t, plus(z, padded(a, b, BLOCK * i)));
         i += 1;
     }
     z

@@ -2,24 +2,29 @@
 //
 // The associated data are given in two parts and hashed one after the other. A GCM key is an AES context and the
 // context of its hash key.
+use aes::BLOCK;
 ghost use mathlib.Core.Path.{_≡_};
 ghost use mathlib.Core.List.{_++_};
 ghost use Prim.Native.Nat.{_+_, _*_, _≤_, _<_};
 ghost use lib.ListN.{length};
 ghost use Rattle.aes.specs.Context.{Ready, keyOf};
+ghost use Rattle.gcm.specs.Counter.{nonceSize};
 ghost use Rattle.gcm.specs.Ghash.{valueOf, HashKey, hashKeyOf};
-ghost use Rattle.gcm.specs.Gcm.{hashKey, hash, gcmTag, gcmEncrypt, maxBytes};
+ghost use Rattle.gcm.specs.Gcm.{hashKey, hash, gcmTag, gcmEncrypt, tagSize, maxBytes};
 
 pub mod counter;
 pub mod ghash;
+
+// The bytes of a tag.
+pub const TAG: usize = BLOCK;
 
 // The context of the hash key of a key.
 pub fn hash_key(ctx: &aes::Context) -> ghash::HashKey
     requires { ⌜ Ready (now ctx) ⌝ }
     ensures { λ r. ⌜ HashKey (hashKey (keyOf (now (ctx .entry)))) r ⌝ }
 {
-    let zeros = [0u8; 16];
-    let mut h = [0u8; 16];
+    let zeros = [0u8; BLOCK];
+    let mut h = [0u8; BLOCK];
     aes::encrypt_block(ctx, &zeros, &mut h);
     ghash::expand(ghash::load(&h))
 }
@@ -50,13 +55,13 @@ pub fn tag(
     out: &mut [u8],
 )
     requires { ⌜ Ready (now ctx) × HashKey (hashKey (keyOf (now ctx))) (now t) ⌝ }
-    requires { ⌜ length (now nonce) ≡ 12 ⌝ }
+    requires { ⌜ length (now nonce) ≡ nonceSize ⌝ }
     requires { ⌜ (length (now header) ≤ maxBytes) × (length (now metadata) ≤ maxBytes) × (length (now ciphertext) ≤ maxBytes) ⌝ }
-    requires { ⌜ length (now out) ≡ 16 ⌝ }
+    requires { ⌜ length (now out) ≡ tagSize ⌝ }
     ensures { λ _. ⌜ now (out .exit) ≡ gcmTag (keyOf (now (ctx .entry))) (now (nonce .entry)) (now (header .entry) ++ now (metadata .entry)) (now (ciphertext .entry)) ⌝ }
 {
     let y = digest(t, header, metadata, ciphertext);
-    let mut s = [0u8; 16];
+    let mut s = [0u8; BLOCK];
     ghash::store(&mut s, y);
     counter::xor_block(ctx, nonce, 1, &s, out);
 }
@@ -72,14 +77,14 @@ pub fn encrypt(
     out: &mut [u8],
 )
     requires { ⌜ Ready (now ctx) × HashKey (hashKey (keyOf (now ctx))) (now t) ⌝ }
-    requires { ⌜ length (now nonce) ≡ 12 ⌝ }
+    requires { ⌜ length (now nonce) ≡ nonceSize ⌝ }
     requires { ⌜ (length (now header) ≤ maxBytes) × (length (now metadata) ≤ maxBytes) × (length (now plaintext) ≤ maxBytes) ⌝ }
-    requires { ⌜ length (now out) ≡ length (now plaintext) + 16 ⌝ }
+    requires { ⌜ length (now out) ≡ length (now plaintext) + tagSize ⌝ }
     ensures { λ _. ⌜ now (out .exit) ≡ gcmEncrypt (keyOf (now (ctx .entry))) (now (nonce .entry)) (now (header .entry) ++ now (metadata .entry)) (now (plaintext .entry)) ⌝ }
 {
     let n = plaintext.len();
     counter::apply(ctx, nonce, 2, plaintext, &mut out[..n]);
-    let mut mac = [0u8; 16];
+    let mut mac = [0u8; TAG];
     tag(ctx, t, nonce, header, metadata, &out[..n], &mut mac);
     octets::copy(&mut out[n..], &mac);
 }

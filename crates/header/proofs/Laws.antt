@@ -11,9 +11,9 @@ use lib.ListN.{length, take, drop, length-append, length-drop}
 use lib.Pow.{pow-add, pow-mono}
 use lib.Seq.{drop-at, take-add}
 use borrow.Author.Tests.{lt-ltb, le-ltb, le-leb, eq-eqb, ltb-true, ltb-false, leb-true, leb-false, eqb-true, eqb-false}
-use Rattle.octets.specs.Octets.{Octets, number, bytes, both}
+use Rattle.octets.specs.Octets.{Octets, number, bytes, pick, both}
 use Rattle.octets.proofs.Laws.{bytes-length, bytes-zero, bytes-number, number-bytes, number-append, number-lt, octets-drop}
-use Rattle.header.specs.Header.{pick, size, flag, code, width, config, maxHeader, header, readBytes, readField, withCounter, readCounter, readHeader}
+use Rattle.header.specs.Header.{size, flag, code, width, config, maxHeader, header, readBytes, readField, withCounter, readCounter, readHeader}
 use Rattle.header.specs.declared.Ctr.{Ctr}
 use Rattle.header.specs.declared.Field.{Field}
 use Rattle.header.specs.declared.Field.the-variants.{Value, Refused}

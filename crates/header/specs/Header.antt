@@ -1,22 +1,17 @@
 -- The SFrame header, RFC 9605 section 4.3. A Key ID (KID) and a counter (CTR) are numbers of 64 bits.
 -- Assumes nothing.
-use mathlib.Core.Bool.{Bool, true, false}
 use mathlib.Core.List.{List, [], _∷_, _++_}
 use Prim.Native.Nat.{ℕ, _+_, _*_, _-_, _/_, _%_}
 use lib.Count.{leadingZeros}
 use lib.Dec.{leb, ltb, eqb}
 use lib.ListN.{length, drop}
-use Rattle.octets.specs.Octets.{number, bytes, both}
+use Rattle.octets.specs.Octets.{number, bytes, pick, both}
 use Rattle.header.specs.declared.Field.{Field}
 use Rattle.header.specs.declared.Field.the-variants.{Value, Refused}
 use Rattle.header.specs.declared.Reading.{Reading}
 use Rattle.header.specs.declared.Reading.the-variants.{Header, Invalid}
 use Rattle.header.specs.declared.Written.{Written}
 use Rattle.header.specs.declared.Written.the-variants.{Length, NoRoom}
-
-abbrev pub pick : {A : Type 0} → Bool → A → A → A
-pick true a b = a
-pick false a b = b
 
 -- ---- writing
 

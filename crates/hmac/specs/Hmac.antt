@@ -1,15 +1,10 @@
 -- HMAC, RFC 2104, over a hash of the SHA-2 family. B is the hash's block. Assumes nothing.
-use mathlib.Core.Bool.{Bool, true, false}
 use mathlib.Core.List.{List, _++_}
 use Prim.Native.Nat.{ℕ, _-_}
 use lib.Dec.{leb}
 use lib.ListN.{length, replicate}
-use Rattle.octets.specs.Octets.{xors}
+use Rattle.octets.specs.Octets.{pick, xors}
 use Rattle.sha2.specs.Sha2.{Params, hash}
-
-abbrev pub either : Bool → List ℕ → List ℕ → List ℕ
-either true a b = a
-either false a b = b
 
 abbrev pub ipad : ℕ
 ipad = 0x36
@@ -20,7 +15,7 @@ opad = 0x5c
 module _ (p : Params) where
   -- Section 2: a key longer than B bytes is hashed first.
   unfoldable pub shortened : List ℕ → List ℕ
-  shortened k = either (leb (length k) (p .block)) k (hash p k)
+  shortened k = pick (leb (length k) (p .block)) k (hash p k)
 
   -- Step 1: zeros to the end of the key make it B bytes.
   unfoldable pub extended : List ℕ → List ℕ

@@ -30,6 +30,11 @@ unfoldable pub xors : List ℕ → List ℕ → List ℕ
 xors [] y = []
 xors (a ∷ x) y = bitXor a (getD y 0 0) ∷ xors x (drop 1 y)
 
+-- a where the test holds, else b.
+abbrev pub pick : {A : Type 0} → Bool → A → A → A
+pick true a b = a
+pick false a b = b
+
 abbrev pub both : Bool → Bool → Bool
 both true b = b
 both false b = false

@@ -7,9 +7,9 @@ use native.Mathlib.Omega.{arith}
 use lib.Dec.{eqb}
 use lib.ListN.{length, take, replicate}
 use borrow.Author.Tests.{eq-eqb, ne-eqb, eqb-true, eqb-false}
-use Rattle.octets.specs.Octets.{Octets}
+use Rattle.octets.specs.Octets.{Octets, pick}
 use Rattle.header.specs.Answers.{readKid, readCtr}
-use Rattle.header.specs.Header.{pick, header, readHeader}
+use Rattle.header.specs.Header.{header, readHeader}
 use Rattle.header.specs.declared.Reading.the-variants.{Header}
 use Rattle.header.proofs.Laws.{read-header}
 use Rattle.store.specs.Answers.{Outcome}

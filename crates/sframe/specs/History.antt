@@ -4,8 +4,7 @@ use mathlib.Core.List.{List, [], _∷_}
 use Prim.Native.Nat.{ℕ, _^_, _<_}
 use lib.Dec.{eqb}
 use lib.ListN.{take}
-use Rattle.octets.specs.Octets.{Octets}
-use Rattle.header.specs.Header.{pick}
+use Rattle.octets.specs.Octets.{Octets, pick}
 use Rattle.store.specs.Answers.{Outcome}
 use Rattle.store.specs.Calls.{make, add, remove}
 use Rattle.store.specs.Cipher.{Cipher}

@@ -1,7 +1,7 @@
 -- What the steps of opening answer. Assumes nothing.
 use Prim.Native.Nat.{ℕ}
 use lib.Dec.{ltb}
-use Rattle.header.specs.Header.{pick}
+use Rattle.octets.specs.Octets.{pick}
 use Rattle.sframe.specs.declared.opening.Room.{Room}
 use Rattle.sframe.specs.declared.opening.Room.the-variants.{Enough, Short}
 

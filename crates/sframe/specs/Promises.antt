@@ -7,9 +7,9 @@ use mathlib.Core.Logic.{_↔_}
 use Prim.Native.Nat.{ℕ, _-_, _≤_}
 use lib.Dec.{eqb}
 use lib.ListN.{length, getD, take, drop}
-use Rattle.octets.specs.Octets.{Octets}
+use Rattle.octets.specs.Octets.{Octets, pick}
 use Rattle.header.specs.Answers.{readKid, readCtr, done, readNumber}
-use Rattle.header.specs.Header.{pick, readHeader}
+use Rattle.header.specs.Header.{readHeader}
 use Rattle.header.specs.declared.Reading.the-variants.{Header}
 use Rattle.store.specs.Answers.{Outcome}
 use Rattle.store.specs.Cipher.{Cipher}

@@ -3,7 +3,7 @@
 use mathlib.Core.Bool.{Bool}
 use mathlib.Core.List.{List, [], _∷_}
 use Prim.Native.Nat.{ℕ, zero, suc}
-use Rattle.header.specs.Header.{pick}
+use Rattle.octets.specs.Octets.{pick}
 
 abbrev pub storeInvalid : ℕ
 storeInvalid = 1

@@ -6,8 +6,7 @@ use mathlib.Core.List.{List, [], _∷_}
 use Prim.Native.Nat.{ℕ, _<_}
 use lib.Dec.{eqb}
 use lib.ListN.{length, getD}
-use Rattle.octets.specs.Octets.{both}
-use Rattle.header.specs.Header.{pick}
+use Rattle.octets.specs.Octets.{pick, both}
 use Rattle.store.specs.Record.{KeyRecord, empty, sending, receiving, retired}
 use Rattle.store.specs.declared.Place.{Place}
 use Rattle.store.specs.declared.Place.the-variants.{At, Nowhere}

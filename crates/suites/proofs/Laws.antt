@@ -10,7 +10,7 @@ use lib.Dec.{leb}
 use lib.ListN.{length, getD, take, drop, length-append, take-append-drop}
 use lib.Seq.{take-all, take-at, drop-at, length-take-le, ext-getD}
 use borrow.Author.Tests.{le-leb, ne-eqb}
-use Rattle.octets.specs.Octets.{Octets, bytes, number, xors, same, both}
+use Rattle.octets.specs.Octets.{Octets, bytes, number, xors, same, pick, both}
 use Rattle.octets.proofs.Bits.{xor-twice}
 use Rattle.octets.proofs.Laws.{bytes-length, bytes-octets, number-bytes, xors-length, xors-octets, xors-at, same-refl, same-eq, octets-append, octets-take}
 use Rattle.sha2.specs.Sizes.{sha256, initial256, initial512}
@@ -25,7 +25,7 @@ use Rattle.suites.specs.declared.sizes.Mode.the-variants.{CtrHmac, Gcm}
 use Rattle.suites.specs.declared.sizes.Found.the-variants.{Known, Unknown}
 use Rattle.suites.specs.Suites.{suiteOf, numberOf, Nk, Nn, Nt, hashOf, modeOf, cipherKeySize}
 use Rattle.suites.specs.Derivation.{sframeKey, sframeSalt, nonce}
-use Rattle.suites.specs.Aead.{cipherKey, firstCount, ctrTag, tagIn, ciphertext, tag, encrypt, plain, differs, pick, decrypt}
+use Rattle.suites.specs.Aead.{cipherKey, firstCount, ctrTag, tagIn, ciphertext, tag, encrypt, plain, differs, decrypt}
 use Rattle.hmac.proofs.Laws.{hmac-length, hmac-octets, expand-length, expand-octets}
 
 -- ---- numbers

@@ -4,7 +4,7 @@ use mathlib.Core.List.{List, _++_}
 use Prim.Native.Nat.{ℕ, _-_}
 use lib.Dec.{leb}
 use lib.ListN.{length, take, drop}
-use Rattle.octets.specs.Octets.{bytes, both, same}
+use Rattle.octets.specs.Octets.{bytes, pick, both, same}
 use Rattle.sha2.specs.Sizes.{sha256}
 use Rattle.hmac.specs.Hmac.{hmac}
 use Rattle.gcm.specs.Counter.{ctr}
@@ -21,7 +21,7 @@ cipherKey s key = take (cipherKeySize s) key
 abbrev pub authKey : List ℕ → List ℕ
 authKey key = drop Nka key
 
--- The block count of the first counter block. 4.5.1: the nonce, then 00000000. 4.5.2: GCM's data start at 2.
+-- The first block count. 4.5.1: the nonce, then 00000000. 4.5 with SP 800-38D §7.1: GCM's data start at 2.
 abbrev pub firstCount : Mode → ℕ
 firstCount CtrHmac = 0
 firstCount Gcm = 2
@@ -62,10 +62,6 @@ encrypt s key nonce aad plaintext =
 pub data Decrypted : Type 0 where
   plain : List ℕ → Decrypted
   differs : Decrypted
-
-abbrev pub pick : Bool → Decrypted → Decrypted → Decrypted
-pick true a b = a
-pick false a b = b
 
 -- 4.4.4: AEAD.Decrypt. The last Nt bytes are the tag; they have to be that of the bytes before them.
 unfoldable pub decrypt : Suite → List ℕ → List ℕ → List ℕ → List ℕ → Decrypted

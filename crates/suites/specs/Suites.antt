@@ -1,7 +1,7 @@
 -- The cipher suites of RFC 9605, section 4.5 and Table 1, by their registered numbers. Assumes nothing.
-use mathlib.Core.Bool.{Bool, true, false}
 use Prim.Native.Nat.{ℕ}
 use lib.Dec.{eqb}
+use Rattle.octets.specs.Octets.{pick}
 use Rattle.sha2.specs.Sha2.{Params}
 use Rattle.sha2.specs.Sizes.{sha256, sha512}
 use Rattle.suites.specs.declared.sizes.Suite.{Suite}
@@ -11,18 +11,14 @@ use Rattle.suites.specs.declared.sizes.Mode.the-variants.{CtrHmac, Gcm}
 use Rattle.suites.specs.declared.sizes.Found.{Found}
 use Rattle.suites.specs.declared.sizes.Found.the-variants.{Known, Unknown}
 
-abbrev pub either : Bool → Found → Found → Found
-either true a b = a
-either false a b = b
-
 -- The suite of a number.
 unfoldable pub suiteOf : ℕ → Found
 suiteOf n =
-    either (eqb n 1) (Known Ctr80)
-    (either (eqb n 2) (Known Ctr64)
-    (either (eqb n 3) (Known Ctr32)
-    (either (eqb n 4) (Known Gcm128)
-    (either (eqb n 5) (Known Gcm256) Unknown))))
+    pick (eqb n 1) (Known Ctr80)
+    (pick (eqb n 2) (Known Ctr64)
+    (pick (eqb n 3) (Known Ctr32)
+    (pick (eqb n 4) (Known Gcm128)
+    (pick (eqb n 5) (Known Gcm256) Unknown))))
 
 abbrev pub numberOf : Suite → ℕ
 numberOf Ctr80 = 1
@@ -43,7 +39,7 @@ Nk Ctr32 = 48
 Nk Gcm128 = 16
 Nk Gcm256 = 32
 
--- How a suite encrypts and authenticates: AES-CTR with HMAC (4.5.1), or AES-GCM (4.5.2).
+-- How a suite encrypts and authenticates: AES-CTR with HMAC (4.5.1), or AES-GCM (4.5 with SP 800-38D).
 abbrev pub modeOf : Suite → Mode
 modeOf Ctr80 = CtrHmac
 modeOf Ctr64 = CtrHmac
