@@ -30,7 +30,7 @@ kidOf x = readKid (readHeader (x .frame))
 unfoldable pub ctrOf : Sealing → ℕ
 ctrOf x = readCtr (readHeader (x .frame))
 
--- It "begins" another when the other's first bytes, as many as it has itself, are its own.
+-- It "begins" another that starts with all of its bytes.
 abbrev pub Begins : Sealing → Sealing → Type 0
 Begins x y = take (length (x .frame)) (y .frame) ≡ x .frame
 
@@ -45,7 +45,7 @@ senders kid (added a ∷ log) = pick (isSender kid a (a .role)) (a ∷ senders k
 senders kid (sealed x ∷ log) = senders kid log
 senders kid (other ∷ log) = senders kid log
 
--- "Opened to it": Open answers 0 and the plaintext's length, and the room starts with the plaintext.
+-- "Opened to it": done, with the plaintext's length, and the plaintext at the front of the room.
 pub record OpenedTo (plaintext : List ℕ) (o : Outcome) : Type 0 where
   pub answers : o .number ≡ done
   pub writes : o .written ≡ length plaintext
@@ -150,7 +150,7 @@ pub record OthersStay (s : List ℕ) (o : Outcome) (place : ℕ) : Type 0 where
   pub length-stays : length (o .store) ≡ length s
   pub others-stay : (j : ℕ) → (j ≡ place → ⊥) → getD (records (o .store)) j empty ≡ getD (records s) j empty
 
--- The same call on both: the same number, length and output, and the same new record; no other record changes.
+-- One call on both stores: what it answers, writes and makes of the record is alike, and the other records stay.
 pub record SameAnswer (s t : List ℕ) (place : ℕ) (o p : Outcome) : Type 0 where
   pub same-number : o .number ≡ p .number
   pub same-length : o .written ≡ p .written

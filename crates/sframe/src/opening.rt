@@ -1,5 +1,5 @@
-// Opening a frame. Each step takes its answer apart, or leaves at once with that step's refusal; the causes are tried in
-// the order 1, 10, 6, 7, 11, 9, 12, 13.
+// Opening a frame. Each step goes on with what it finds, or returns its own refusal, in the order 1, 10, 6, 7, 11, 9,
+// 12, 13.
 ghost use mathlib.Core.Path.{_≡_};
 ghost use mathlib.Core.Bool.{true, false};
 ghost use mathlib.Core.List.{[], _++_};
