@@ -163,6 +163,34 @@ fn a_store_is_its_owners_alone() {
     assert_eq!(metadata.permissions().mode() & 0o777, 0o600);
 }
 
+/// Whatever stands where the new store is written first, no key goes there.
+#[cfg(unix)]
+#[test]
+fn a_file_in_the_way() {
+    use std::os::unix::fs::{symlink, PermissionsExt};
+    let folder = Folder::with_stores("in-the-way", 4);
+    let mode = |file| {
+        let metadata = std::fs::symlink_metadata(folder.path(file)).unwrap();
+        assert!(metadata.is_file(), "{file}");
+        metadata.permissions().mode() & 0o777
+    };
+
+    folder.write(".ward.new", b"");
+    let readable = PermissionsExt::from_mode(0o644);
+    std::fs::set_permissions(folder.path(".ward.new"), readable).unwrap();
+    // Who has it open already sees nothing of the store.
+    let other = folder.path("other");
+    std::fs::hard_link(folder.path(".ward.new"), &other).unwrap();
+    folder.done("seal ward --kid 200 --in key --out frame");
+    assert_eq!((mode("ward"), folder.read("other")), (0o600, vec![]));
+
+    symlink("other", folder.path(".ward.new")).unwrap();
+    folder.done("seal ward --kid 200 --in key --out frame");
+    assert_eq!((mode("ward"), folder.read("other")), (0o600, vec![]));
+    let header = folder.done("header --in frame");
+    assert!(header.starts_with(b"key number 200, counter 1,"));
+}
+
 /// A store with two names is locked and replaced as one.
 #[cfg(unix)]
 #[test]

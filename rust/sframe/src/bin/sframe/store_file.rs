@@ -53,10 +53,19 @@ impl StoreFile {
     /// new ones outlast a power cut.
     pub fn replace(&self, disk: &mut impl Disk, bytes: &[u8]) -> Result<(), Failure> {
         let new = self.beside(".", ".new");
+        // What a stopped run or somebody else left there may be readable to
+        // others, or a link.
+        disk.remove(&new).map_err(Failure::at(&new))?;
         let mut file = disk.create(&new).map_err(Failure::at(&new))?;
-        disk.write(&mut file, bytes).map_err(Failure::at(&new))?;
-        disk.sync(&mut file).map_err(Failure::at(&new))?;
-        disk.rename(&new, &self.0).map_err(Failure::at(&self.0))?;
+        let renamed = disk
+            .write(&mut file, bytes)
+            .and_then(|()| disk.sync(&mut file))
+            .and_then(|()| disk.rename(&new, &self.0));
+        if let Err(error) = renamed {
+            // The first failure is the one to tell.
+            let _ = disk.remove(&new);
+            return Err(Failure::at(&self.0)(error));
+        }
         let folder = self.folder();
         disk.sync_folder(folder).map_err(Failure::at(folder))
     }

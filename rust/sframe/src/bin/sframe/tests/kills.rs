@@ -132,11 +132,28 @@ fn sealing_stopped_at_every_step() {
             assert_eq!(setup.next(&disk), next + 1);
         }
         if given_out.is_some() {
-            assert!(step >= 7, "two reads, create, write, sync, rename, sync");
+            assert!(
+                step >= 8,
+                "two reads, remove, create, write, sync, rename, sync"
+            );
             break;
         }
     }
     assert!(old > 0 && new > 0);
+}
+
+/// A run that fails, but is not stopped, leaves nothing beside the store.
+#[test]
+fn sealing_with_one_failing_step() {
+    let setup = Setup::new("failing");
+    for step in 0.. {
+        let mut disk = setup.disk.failing_at(step);
+        let given_out = setup.counter(&mut disk);
+        assert_eq!(disk.names(), [setup.store()], "failed at {step}");
+        if given_out.is_some() {
+            break;
+        }
+    }
 }
 
 /// Many runs in a row, each stopped at another step and restarted in another

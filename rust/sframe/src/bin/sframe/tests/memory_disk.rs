@@ -27,6 +27,7 @@ pub struct MemoryDisk {
     synced_names: HashMap<PathBuf, usize>,
     steps: usize,
     stop_at: Option<usize>,
+    fail_at: Option<usize>,
 }
 
 impl MemoryDisk {
@@ -38,6 +39,20 @@ impl MemoryDisk {
             stop_at: Some(step),
             ..self.clone()
         }
+    }
+
+    /// The same disk, which fails at the given step alone.
+    pub fn failing_at(&self, step: usize) -> Self {
+        MemoryDisk {
+            steps: 0,
+            fail_at: Some(step),
+            ..self.clone()
+        }
+    }
+
+    /// The names of the files.
+    pub fn names(&self) -> Vec<&Path> {
+        self.names.keys().map(PathBuf::as_path).collect()
     }
 
     /// The disk after a restart. A killed run loses nothing; a power cut may
@@ -74,7 +89,10 @@ impl MemoryDisk {
             return Err(io::Error::other("stopped"));
         }
         self.steps += 1;
-        Ok(())
+        match self.fail_at {
+            Some(step) if self.steps == step + 1 => Err(io::Error::other("failed")),
+            _ => Ok(()),
+        }
     }
 
     fn find(&self, path: &Path) -> io::Result<usize> {
@@ -97,11 +115,16 @@ impl Disk for MemoryDisk {
         Ok(bytes[..bytes.len().min(most)].to_vec())
     }
 
+    fn remove(&mut self, path: &Path) -> io::Result<()> {
+        self.step()?;
+        self.names.remove(path);
+        Ok(())
+    }
+
     fn create(&mut self, path: &Path) -> io::Result<usize> {
         self.step()?;
-        if let Ok(file) = self.find(path) {
-            self.files[file].written.clear();
-            return Ok(file);
+        if self.names.contains_key(path) {
+            return Err(io::ErrorKind::AlreadyExists.into());
         }
         self.files.push(Content::default());
         self.names.insert(path.into(), self.files.len() - 1);
