@@ -191,7 +191,41 @@ fn a_file_in_the_way() {
     assert!(header.starts_with(b"key number 200, counter 1,"));
 }
 
-/// A store with two names is locked and replaced as one.
+/// Each of two hard links would get a store and counters of its own.
+#[cfg(unix)]
+#[test]
+fn a_store_with_hard_links() {
+    let folder = Folder::with_stores("hard-link", 4);
+    folder.done("seal ward --kid 200 --in key --out frame");
+    for (store, other) in [("ward", "b"), ("doctor", "c")] {
+        std::fs::hard_link(folder.path(store), folder.path(other)).unwrap();
+    }
+    let before = folder.read("ward");
+    for store in ["ward", "b"] {
+        let add = format!("add {store} --sending --kid 1 --suite 4 --key key");
+        let remove = format!("remove {store} --kid 200");
+        let seal = format!("seal {store} --kid 200 --in key");
+        for line in [add, remove, seal] {
+            let message = folder.fails(&line, 74);
+            assert!(message.contains("hard links"), "{message}");
+        }
+        folder.done(&format!("list {store}"));
+    }
+    assert_eq!(folder.read("ward"), before);
+    assert_eq!(folder.read("b"), before);
+
+    // Nor is a result written to the store under its other name.
+    let before = folder.read("doctor");
+    folder.fails("open doctor --in frame --out c", 64);
+    assert_eq!(folder.read("doctor"), before);
+
+    std::fs::remove_file(folder.path("b")).unwrap();
+    folder.done("seal ward --kid 200 --in key --out frame");
+    let header = folder.done("header --in frame");
+    assert!(header.starts_with(b"key number 200, counter 1,"));
+}
+
+/// A store and a symbolic link to it are locked and replaced as one.
 #[cfg(unix)]
 #[test]
 fn a_link_stays_a_link() {

@@ -87,6 +87,7 @@ fn change<T>(
     // No file means no lock file either.
     file.read(disk)?;
     let _lock = file.lock()?;
+    file.check_one_name(disk)?;
     let mut bytes = file.read(disk)?;
     let answer = call(&mut bytes)?;
     file.replace(disk, &bytes)?;
@@ -170,7 +171,7 @@ fn open(
 /// Refuses to write the result over the store.
 fn spare_store(store: &Path, output: &Place) -> Result<(), Failure> {
     match output {
-        Place::File(path) if StoreFile::at(path)? == StoreFile::at(store)? => {
+        Place::File(path) if StoreFile::at(store)?.is_at(path) => {
             Err(Failure::usage("--out is the store itself"))
         }
         _ => Ok(()),

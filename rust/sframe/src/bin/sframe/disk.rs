@@ -14,6 +14,8 @@ pub trait Disk {
     fn exists(&mut self, path: &Path) -> io::Result<bool>;
     /// The first `most` bytes of a file.
     fn read(&mut self, path: &Path, most: usize) -> io::Result<Vec<u8>>;
+    /// How many names (hard links) a file has, as far as the system tells.
+    fn links(&mut self, path: &Path) -> io::Result<u64>;
     /// Removes a file, if there is one. A link is removed, not what it leads to.
     fn remove(&mut self, path: &Path) -> io::Result<()>;
     /// Makes a file for writing that others than its owner cannot read, where
@@ -46,6 +48,16 @@ impl Disk for RealDisk {
             .take(most as u64)
             .read_to_end(&mut bytes)?;
         Ok(bytes)
+    }
+
+    #[cfg(unix)]
+    fn links(&mut self, path: &Path) -> io::Result<u64> {
+        fs::metadata(path).map(|metadata| std::os::unix::fs::MetadataExt::nlink(&metadata))
+    }
+
+    #[cfg(not(unix))]
+    fn links(&mut self, _path: &Path) -> io::Result<u64> {
+        Ok(1)
     }
 
     fn remove(&mut self, path: &Path) -> io::Result<()> {

@@ -5,10 +5,12 @@ use crate::failure::Failure;
 use sframe::{MAX_RECORDS, RECORD};
 use std::ffi::OsString;
 use std::fs::{File, OpenOptions};
+use std::io;
 use std::path::{Path, PathBuf};
 
-/// The path of a store. A link is followed once, so that every name of a store
-/// has the same lock and the link is not what gets replaced.
+/// The path of a store. Symbolic links are followed once, so that they lead to
+/// the same lock and are not what gets replaced. Hard links cannot be followed:
+/// a store that has some is not changed.
 #[derive(Clone, Debug, PartialEq, Eq)]
 pub struct StoreFile(PathBuf);
 
@@ -26,6 +28,28 @@ impl StoreFile {
 
     pub fn path(&self) -> &Path {
         &self.0
+    }
+
+    /// Whether `path` leads to the same file.
+    pub fn is_at(&self, path: &Path) -> bool {
+        #[cfg(unix)]
+        if let (Ok(one), Ok(other)) = (self.0.metadata(), path.metadata()) {
+            use std::os::unix::fs::MetadataExt;
+            return (one.dev(), one.ino()) == (other.dev(), other.ino());
+        }
+        path.canonicalize().is_ok_and(|path| path == self.0)
+    }
+
+    /// Refuses a store that has a second name: replacing it would leave the old
+    /// counters under that name.
+    pub fn check_one_name(&self, disk: &mut impl Disk) -> Result<(), Failure> {
+        match disk.links(&self.0).map_err(Failure::at(&self.0))? {
+            0 | 1 => Ok(()),
+            _ => {
+                let text = "a store with several hard links is not changed";
+                Err(Failure::at(&self.0)(io::Error::other(text)))
+            }
+        }
     }
 
     /// Waits until no other run holds the store. The lock ends with the file

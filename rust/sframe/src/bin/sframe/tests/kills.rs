@@ -133,8 +133,8 @@ fn sealing_stopped_at_every_step() {
         }
         if given_out.is_some() {
             assert!(
-                step >= 8,
-                "two reads, remove, create, write, sync, rename, sync"
+                step >= 9,
+                "two reads, links, remove, create, write, sync, rename, sync"
             );
             break;
         }
@@ -164,7 +164,7 @@ fn many_stopped_runs() {
     let mut disk = setup.disk.clone();
     let mut counters = vec![];
     for run in 0..2_000 {
-        let mut stopped = disk.stopping_at(run * 7 % 11);
+        let mut stopped = disk.stopping_at(run * 7 % 13);
         counters.extend(setup.counter(&mut stopped));
         let (names, contents) = RESTARTS[run / 3 % 4];
         disk = stopped.restarted(names, contents);

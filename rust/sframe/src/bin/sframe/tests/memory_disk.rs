@@ -115,6 +115,12 @@ impl Disk for MemoryDisk {
         Ok(bytes[..bytes.len().min(most)].to_vec())
     }
 
+    fn links(&mut self, path: &Path) -> io::Result<u64> {
+        self.step()?;
+        let file = self.find(path)?;
+        Ok(self.names.values().filter(|&&other| other == file).count() as u64)
+    }
+
     fn remove(&mut self, path: &Path) -> io::Result<()> {
         self.step()?;
         self.names.remove(path);
