@@ -114,6 +114,13 @@ fn wrong_command_lines() {
         64,
     );
     assert_eq!(folder.read("ward"), before);
+    // Nor is a store made or used where another one has its own files.
+    let files = folder.files();
+    folder.fails("make other.lock --keys 1", 64);
+    folder.fails("make .other.new --keys 1", 64);
+    folder.fails("list ward.lock", 64);
+    assert_eq!(folder.files(), files);
+    folder.done("make other.new --keys 1");
 }
 
 #[test]

@@ -3,7 +3,7 @@
 use crate::disk::Disk;
 use crate::failure::Failure;
 use sframe::{MAX_RECORDS, RECORD};
-use std::ffi::OsString;
+use std::ffi::{OsStr, OsString};
 use std::fs::{File, OpenOptions};
 use std::io;
 use std::path::{Path, PathBuf};
@@ -20,10 +20,14 @@ impl StoreFile {
         if path.file_name().is_none() {
             return Err(Failure::usage(format!("{}: not a file", path.display())));
         }
-        match path.canonicalize() {
-            Ok(path) => Ok(StoreFile(path)),
-            Err(_) => Ok(StoreFile(path.to_path_buf())),
+        let store = StoreFile(path.canonicalize().unwrap_or_else(|_| path.to_path_buf()));
+        // The lock or the new file of another store could have this name.
+        let name = store.name().as_encoded_bytes();
+        if name.ends_with(b".lock") || name.starts_with(b".") && name.ends_with(b".new") {
+            let text = "a store cannot be named like STORE.lock or .STORE.new";
+            return Err(Failure::usage(format!("{}: {text}", path.display())));
         }
+        Ok(store)
     }
 
     pub fn path(&self) -> &Path {
@@ -52,8 +56,10 @@ impl StoreFile {
         }
     }
 
-    /// Waits until no other run holds the store. The lock ends with the file
-    /// that is answered, at the latest with the process.
+    /// Waits until no other run changes the store. The lock ends with the file
+    /// that is answered, at the latest with the process. Its file stays: if it
+    /// were removed, a run that waits for it and one that makes it anew would
+    /// both go on.
     pub fn lock(&self) -> Result<File, Failure> {
         let path = self.beside("", ".lock");
         OpenOptions::new()
@@ -104,8 +110,12 @@ impl StoreFile {
     /// A file in the same folder, named after the store.
     fn beside(&self, before: &str, behind: &str) -> PathBuf {
         let mut name = OsString::from(before);
-        name.push(self.0.file_name().unwrap_or_default());
+        name.push(self.name());
         name.push(behind);
         self.0.with_file_name(name)
+    }
+
+    fn name(&self) -> &OsStr {
+        self.0.file_name().unwrap_or_default()
     }
 }
