@@ -152,6 +152,37 @@ fn too_long() {
     refused(&folder, "open doctor --in much", Refusal::TooLong);
 }
 
+/// Hex that is too long is refused as the bytes would be; white space does not
+/// count.
+#[test]
+fn too_long_in_hex() {
+    let folder = folder("refused-hex");
+    folder.write("most", &[0; 32_768]);
+    folder.done("seal ward --kid 200 --in most --hex --out frame");
+    let frame = String::from_utf8(folder.read("frame")).unwrap();
+    let spaced: String = frame
+        .chars()
+        .map(|digit| format!(" \n\t {digit}"))
+        .collect();
+    folder.write("spaced", spaced.as_bytes());
+    assert_eq!(folder.done("open doctor --in spaced --hex"), [0; 32_768]);
+    for more in [16, 1_000_000] {
+        let long = frame.clone() + &"00".repeat(more);
+        folder.write("long", long.as_bytes());
+        refused(&folder, "open doctor --in long --hex", Refusal::TooLong);
+        let header = folder.done("header --in long --hex");
+        assert!(header.starts_with(b"key number 200, counter 1,"));
+    }
+
+    let add = "add ward --sending --kid 1 --suite 4 --key long --hex";
+    for bytes in [65, 100_000] {
+        folder.write("long", "07".repeat(bytes).as_bytes());
+        refused(&folder, add, Refusal::BaseKeyLength);
+    }
+    folder.write("long", "07 \n".repeat(64).as_bytes());
+    folder.done(add);
+}
+
 #[test]
 fn frames_refused() {
     let folder = folder("refused-10-11-13");

@@ -7,8 +7,8 @@ use std::path::Path;
 
 /// The command line is not one that the tool takes.
 pub const USAGE: u8 = 64;
-/// An input is not of the form that was announced.
-pub const DATA: u8 = 65;
+/// An input is not hex.
+pub const NOT_HEX: u8 = 65;
 /// A file or a stream failed.
 pub const IO: u8 = 74;
 
@@ -19,8 +19,8 @@ pub enum Failure {
     Refused(Refusal),
     /// The command line is wrong.
     Usage(String),
-    /// An input is wrong.
-    Data(String),
+    /// An input is not hex; the text says which one.
+    NotHex(String),
     /// A file or a stream failed.
     Io {
         /// What failed.
@@ -52,7 +52,7 @@ impl Failure {
         match self {
             Failure::Refused(refusal) => refusal.number() as u8,
             Failure::Usage(_) => USAGE,
-            Failure::Data(_) => DATA,
+            Failure::NotHex(_) => NOT_HEX,
             Failure::Io { .. } => IO,
         }
     }
@@ -69,7 +69,7 @@ impl fmt::Display for Failure {
         match self {
             Failure::Refused(refusal) => write!(f, "refused ({}): {refusal}", refusal.number()),
             Failure::Usage(text) => write!(f, "{text}; `sframe --help` shows how to call it"),
-            Failure::Data(text) => f.write_str(text),
+            Failure::NotHex(what) => write!(f, "{what}: not hex"),
             Failure::Io { what, error } => write!(f, "{what}: {error}"),
         }
     }
