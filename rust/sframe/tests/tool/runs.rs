@@ -53,6 +53,22 @@ fn ways_to_give_a_key() {
     }
 }
 
+/// A key that is given in the place of its file is not shown.
+#[test]
+fn a_key_as_an_argument() {
+    let folder = Folder::with_stores("no-key", 4);
+    let key = "00112233445566778899aabbccddeeff";
+    let add = format!("add ward --sending --kid 1 --suite 4 --key {key}");
+    for line in [add.clone(), add.clone() + " --hex"] {
+        let message = folder.fails(&line, 74);
+        assert!(message.starts_with("sframe: --key: "), "{message}");
+        assert!(!message.contains("0011"), "{message}");
+    }
+    folder.write(key, b"no hex");
+    let message = folder.fails(&(add + " --hex"), 65);
+    assert_eq!(message, "sframe: --key: not hex\n");
+}
+
 #[test]
 fn list_shows_everything_but_keys() {
     let folder = Folder::with_stores("list", 4);

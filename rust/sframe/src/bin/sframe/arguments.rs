@@ -149,7 +149,9 @@ impl Words {
             } else if let Some(name) = FLAGS.into_iter().find(|&name| name == text) {
                 words.flags.push(name);
             } else if text.starts_with('-') && text != "-" {
-                return Err(Failure::usage(format!("there is no option {text}")));
+                // What follows a `=` is not shown: it could be a key.
+                let name = text.split_inclusive('=').next().unwrap_or_default();
+                return Err(Failure::usage(format!("there is no option {name}")));
             } else {
                 words.plain.push(word);
             }

@@ -31,9 +31,11 @@ pub fn run(command: Command, disk: &mut impl Disk, out: &mut impl Write) -> Resu
             hex,
         } => {
             let base_key = match hex {
-                true => key.read_hex(MAX_BASE_KEY)?,
-                false => key.read(MAX_BASE_KEY)?,
+                true => key.read_hex(MAX_BASE_KEY),
+                false => key.read(MAX_BASE_KEY),
             };
+            // The path is not shown: by mistake it could be the key.
+            let base_key = base_key.map_err(|failure| failure.naming("--key"))?;
             change(disk, &store, |bytes| {
                 add(bytes, role, kid, suite, &base_key)
             })

@@ -47,6 +47,15 @@ impl Failure {
         |error| Failure::io(path.display().to_string(), error)
     }
 
+    /// The same failure of an input that is called `name`.
+    pub fn naming(self, name: &str) -> Self {
+        match self {
+            Failure::NotHex(_) => Failure::NotHex(name.into()),
+            Failure::Io { error, .. } => Failure::io(name, error),
+            other => other,
+        }
+    }
+
     /// The exit status: a refusal's own number, or one above them all.
     pub fn status(&self) -> u8 {
         match self {

@@ -109,9 +109,14 @@ fn wrong_lines() {
     }
 }
 
-/// A word too many could be a key.
+/// A word too many could be a key, and so could a value after `=`.
 #[test]
 fn a_stray_argument_is_not_repeated() {
-    let message = parse("list ward 00112233445566778899aabbccddeeff").unwrap_err();
-    assert!(!message.contains("0011"), "{message}");
+    for line in [
+        "list ward 00112233445566778899aabbccddeeff",
+        "add ward --key=00112233445566778899aabbccddeeff",
+    ] {
+        let message = parse(line).unwrap_err();
+        assert!(!message.contains("0011"), "{message}");
+    }
 }
