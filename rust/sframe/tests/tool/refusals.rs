@@ -32,10 +32,6 @@ fn folder(name: &str) -> Folder {
 #[test]
 fn store_not_sound() {
     let folder = folder("refused-1");
-    refused(&folder, "make other --keys 0", Refusal::StoreNotSound);
-    refused(&folder, "make other --keys 65", Refusal::StoreNotSound);
-    let huge = "make other --keys 18446744073709551615";
-    refused(&folder, huge, Refusal::StoreNotSound);
     let mut damaged = folder.read("ward");
     damaged[2] = 1;
     folder.write("damaged", &damaged);
@@ -54,6 +50,19 @@ fn store_not_sound() {
             refused(&folder, &line, Refusal::StoreNotSound);
         }
     }
+}
+
+/// It is the number of keys that is wrong, not a store.
+#[test]
+fn number_of_keys() {
+    let folder = folder("refused-keys");
+    let files = folder.files();
+    for keys in [0, 65, u64::MAX] {
+        let message = folder.fails(&format!("make other --keys {keys}"), 1);
+        let expected = "sframe: refused (1): a store has room for 1 to 64 keys\n";
+        assert_eq!(message, expected);
+    }
+    assert_eq!(folder.files(), files);
 }
 
 #[test]

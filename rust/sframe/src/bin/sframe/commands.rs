@@ -8,14 +8,14 @@ use crate::hex;
 use crate::input::Place;
 use crate::store_file::StoreFile;
 use sframe::{
-    raw, read_header, write_header, Ctr, Kid, Metadata, Refusal, Role, Store, StoreView,
-    MAX_BASE_KEY, MAX_HEADER, MAX_METADATA, MAX_PLAINTEXT, MAX_RECORDS, RECORD,
+    frame_room, raw, read_header, write_header, Ctr, Kid, Metadata, Refusal, Role, Store,
+    StoreView, Suite, MAX_BASE_KEY, MAX_HEADER, MAX_METADATA, MAX_PLAINTEXT, MAX_RECORDS, RECORD,
 };
 use std::io::Write;
 use std::path::Path;
 
-/// A length that no frame reaches which could be opened.
-const MAX_FRAME: usize = MAX_HEADER + MAX_PLAINTEXT + 16;
+/// The longest frame that can be opened; the suite is one with the longest tag.
+const MAX_FRAME: usize = frame_room(Suite::Aes128GcmSha256_128, MAX_PLAINTEXT);
 
 /// Runs a command. What it has to say goes to `out`.
 pub fn run(command: Command, disk: &mut impl Disk, out: &mut impl Write) -> Result<(), Failure> {
@@ -69,7 +69,7 @@ fn make(disk: &mut impl Disk, path: &Path, keys: u64) -> Result<(), Failure> {
     // More records than a store may have are refused like any other number.
     let records = keys.min(MAX_RECORDS as u64 + 1) as usize;
     let mut bytes = vec![0; records * RECORD];
-    Store::make(&mut bytes)?;
+    Store::make(&mut bytes).map_err(Failure::MakeRefused)?;
 
     let _lock = file.lock()?;
     if disk.exists(file.path()).map_err(Failure::at(file.path()))? {
@@ -109,7 +109,11 @@ fn add(
         Role::Sending => raw::add_sending(store, kid, suite, base_key),
         Role::Receiving => raw::add_receiving(store, kid, suite, base_key),
     };
-    Refusal::from_number(number).map_or(Ok(()), Err)
+    match (number, Refusal::from_number(number)) {
+        (0, _) => Ok(()),
+        (_, Some(refusal)) => Err(refusal),
+        (_, None) => unreachable!("the library answers no number {number}"),
+    }
 }
 
 fn list(disk: &mut impl Disk, path: &Path, out: &mut impl Write) -> Result<(), Failure> {

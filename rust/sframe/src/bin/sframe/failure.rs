@@ -1,6 +1,6 @@
 //! Why a run fails, and with which exit status.
 
-use sframe::Refusal;
+use sframe::{Refusal, MAX_RECORDS};
 use std::fmt;
 use std::io;
 use std::path::Path;
@@ -17,6 +17,9 @@ pub const IO: u8 = 74;
 pub enum Failure {
     /// The sealing layer refused.
     Refused(Refusal),
+    /// The sealing layer refused to make a store, which it does only for its
+    /// length.
+    MakeRefused(Refusal),
     /// The command line is wrong.
     Usage(String),
     /// An input is not hex; the text says which one.
@@ -59,7 +62,7 @@ impl Failure {
     /// The exit status: a refusal's own number, or one above them all.
     pub fn status(&self) -> u8 {
         match self {
-            Failure::Refused(refusal) => refusal.number() as u8,
+            Failure::Refused(refusal) | Failure::MakeRefused(refusal) => refusal.number() as u8,
             Failure::Usage(_) => USAGE,
             Failure::NotHex(_) => NOT_HEX,
             Failure::Io { .. } => IO,
@@ -77,6 +80,13 @@ impl fmt::Display for Failure {
     fn fmt(&self, f: &mut fmt::Formatter) -> fmt::Result {
         match self {
             Failure::Refused(refusal) => write!(f, "refused ({}): {refusal}", refusal.number()),
+            Failure::MakeRefused(refusal) => {
+                let number = refusal.number();
+                write!(
+                    f,
+                    "refused ({number}): a store has room for 1 to {MAX_RECORDS} keys"
+                )
+            }
             Failure::Usage(text) => write!(f, "{text}; `sframe --help` shows how to call it"),
             Failure::NotHex(what) => write!(f, "{what}: not hex"),
             Failure::Io { what, error } => write!(f, "{what}: {error}"),

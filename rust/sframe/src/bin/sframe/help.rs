@@ -52,13 +52,14 @@ would happen with a copy of a store, with a store brought back from a backup, or
 with a new store that gets the same keys for sending: never seal with these.
 
 Exit status: 0 done; 1 to 13 refused, with these causes:
-   1  the store is not sound              8  the key has no counter left
-   2  no such suite                       9  plaintext above 32768 bytes, or
-   3  base key not of 16 to 64 bytes         metadata above 1024
-   4  key number already in the store    10  header cut short or not shortest
-   5  no empty record left               11  frame too short for a tag
-   6  key number not in the store        12  room too short (not met here)
-   7  role does not allow it             13  the tag does not match
+   1  the store is not sound, or not      8  the key has no counter left
+      1 to 64 keys in making              9  plaintext above 32768 bytes, or
+   2  no such suite                          metadata above 1024
+   3  base key not of 16 to 64 bytes     10  header cut short or not shortest
+   4  key number already in the store    11  frame too short for a tag
+   5  no empty record left               12  room too short (not met here)
+   6  key number not in the store        13  the tag does not match
+   7  role does not allow it
 64 the command line is wrong; 65 an input is not hex; 74 a file failed.
 
 Example, sealing at one end and opening at the other:
