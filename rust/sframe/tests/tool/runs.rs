@@ -125,10 +125,9 @@ fn wrong_command_lines() {
     folder.write("picture", b"a picture");
     let before = folder.read("ward");
     folder.fails("seal ward --kid 200 --in picture --out ward", 64);
-    folder.fails(
-        "seal ward --kid 200 --in picture --out ./../tool-usage/ward",
-        64,
-    );
+    let out = folder.path("./ward");
+    let seal = "seal ward --kid 200 --in picture --out";
+    fails(seal, 64, folder.command(seal).arg(out).output().unwrap());
     assert_eq!(folder.read("ward"), before);
     // Nor is a store made or used where another one has its own files.
     let files = folder.files();
@@ -164,6 +163,11 @@ fn files_that_fail() {
         folder.fails(line, 74);
     }
     assert_eq!(folder.files(), before);
+    // The message stays on one line.
+    for line in ["list", "open doctor --in"] {
+        let output = folder.command(line).arg("no\nwhere").output().unwrap();
+        fails(line, 74, output);
+    }
 }
 
 /// Making anew would start the counters from 0.

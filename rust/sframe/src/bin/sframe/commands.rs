@@ -74,7 +74,7 @@ fn make(disk: &mut impl Disk, path: &Path, keys: u64) -> Result<(), Failure> {
     let _lock = file.lock()?;
     if disk.exists(file.path()).map_err(Failure::at(file.path()))? {
         let error = std::io::ErrorKind::AlreadyExists.into();
-        return Err(Failure::io(path.display().to_string(), error));
+        return Err(Failure::at(path)(error));
     }
     file.replace(disk, &bytes)
 }

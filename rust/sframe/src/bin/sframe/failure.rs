@@ -47,7 +47,7 @@ impl Failure {
 
     /// For `map_err`: a failure of the file at `path`.
     pub fn at(path: &Path) -> impl FnOnce(io::Error) -> Failure + '_ {
-        |error| Failure::io(path.display().to_string(), error)
+        move |error| Failure::io(format!("{path:?}"), error)
     }
 
     /// The same failure of an input that is called `name`.

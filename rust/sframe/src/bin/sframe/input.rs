@@ -67,7 +67,7 @@ impl Place {
     fn name(&self) -> String {
         match self {
             Place::Standard => "standard input".into(),
-            Place::File(path) => path.display().to_string(),
+            Place::File(path) => format!("{path:?}"),
         }
     }
 }

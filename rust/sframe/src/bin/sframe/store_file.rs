@@ -18,14 +18,14 @@ impl StoreFile {
     /// The store at `path`, which may not exist yet.
     pub fn at(path: &Path) -> Result<Self, Failure> {
         if path.file_name().is_none() {
-            return Err(Failure::usage(format!("{}: not a file", path.display())));
+            return Err(Failure::usage(format!("{path:?}: not a file")));
         }
         let store = StoreFile(path.canonicalize().unwrap_or_else(|_| path.to_path_buf()));
         // The lock or the new file of another store could have this name.
         let name = store.name().as_encoded_bytes();
         if name.ends_with(b".lock") || name.starts_with(b".") && name.ends_with(b".new") {
             let text = "a store cannot be named like STORE.lock or .STORE.new";
-            return Err(Failure::usage(format!("{}: {text}", path.display())));
+            return Err(Failure::usage(format!("{path:?}: {text}")));
         }
         Ok(store)
     }

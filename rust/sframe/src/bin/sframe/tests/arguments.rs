@@ -109,6 +109,21 @@ fn wrong_lines() {
     }
 }
 
+/// A message stays on one line, whatever it repeats.
+#[test]
+fn words_with_a_newline() {
+    for words in [
+        &["a\nb"][..],
+        &["list", "-a\nb"],
+        &["remove", "ward", "--kid", "a\nb"],
+    ] {
+        let failure = Command::parse(words.iter().map(OsString::from)).unwrap_err();
+        let message = failure.to_string();
+        assert!(message.contains(r"a\nb"), "{message}");
+        assert!(!message.contains('\n'), "{message}");
+    }
+}
+
 /// A word too many could be a key, and so could a value after `=`.
 #[test]
 fn a_stray_argument_is_not_repeated() {

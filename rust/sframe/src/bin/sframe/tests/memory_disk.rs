@@ -163,9 +163,13 @@ impl Disk for MemoryDisk {
         Ok(())
     }
 
-    fn sync_folder(&mut self, _folder: &Path) -> io::Result<()> {
+    fn sync_folder(&mut self, folder: &Path) -> io::Result<()> {
         self.step()?;
-        self.synced_names.clone_from(&self.names);
+        let inside = |path: &Path| path.parent() == Some(folder);
+        self.synced_names.retain(|path, _| !inside(path));
+        let names = self.names.iter().filter(|(path, _)| inside(path));
+        self.synced_names
+            .extend(names.map(|(path, &file)| (path.clone(), file)));
         Ok(())
     }
 }
