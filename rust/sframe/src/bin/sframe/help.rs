@@ -44,12 +44,12 @@ A store is replaced as a whole or not at all, and a new counter is on the disk
 before the frame under the old one is given out. STORE.lock keeps two runs from
 changing one store at the same time; open and list change nothing and take no
 lock. That file stays: do not remove it while a run may use the store. No store
-may be named like STORE.lock or .STORE.new, and one with hard links is not
-changed.
+may be named like STORE.lock or .STORE.new, and a store that has several hard
+links is not changed.
 
-No counter of a key may be used twice, or the frames are no longer safe. That
-would happen with a copy of a store, with a store brought back from a backup, or
-with a new store that gets the same keys for sending: never seal with these.
+Frames are no longer safe once a key has used a counter twice. That happens with
+a copy of a store, with a store put back as it was before, say from a backup,
+and with a new store that gets the same keys for sending: never seal with these.
 
 Exit status: 0 done; 1 to 13 refused, with these causes:
    1  the store is not sound, or not      8  the key has no counter left
