@@ -46,7 +46,7 @@ impl fmt::Display for Role {
 /// assert_eq!(doctor.open(frame, Metadata(b"camera 2"), &mut opened)?, 9);
 /// assert_eq!(&opened, picture);
 ///
-/// // A frame that fails its tag shows nothing of itself.
+/// // Under other metadata the tag does not match, and the room stays as it was.
 /// let mut nothing = [0; 9];
 /// let refused = doctor.open(frame, Metadata(b"camera 3"), &mut nothing);
 /// assert_eq!(refused, Err(Refusal::TagDiffers));

@@ -3,14 +3,17 @@
 use std::fs;
 use std::io::Write;
 use std::path::{Path, PathBuf};
-use std::process::{Command, Output, Stdio};
+use std::process::{self, Command, Output, Stdio};
+use std::thread;
 
 pub struct Folder(PathBuf);
 
 impl Folder {
-    /// An empty folder.
+    /// An empty folder, which other runs of the tests do not use.
     pub fn new(name: &str) -> Self {
-        let path = Path::new(env!("CARGO_TARGET_TMPDIR")).join(format!("tool-{name}"));
+        let name = format!("tool-{name}-{}", process::id());
+        let path = Path::new(env!("CARGO_TARGET_TMPDIR")).join(name);
+        // An earlier process may have had the same number.
         let _ = fs::remove_dir_all(&path);
         fs::create_dir_all(&path).expect("a folder for the test");
         Folder(path)
@@ -89,6 +92,15 @@ impl Folder {
     #[track_caller]
     pub fn fails(&self, line: &str, status: i32) -> String {
         fails(line, status, self.run(line))
+    }
+}
+
+/// The folder of a test that fails stays.
+impl Drop for Folder {
+    fn drop(&mut self) {
+        if !thread::panicking() {
+            let _ = fs::remove_dir_all(&self.0);
+        }
     }
 }
 

@@ -32,10 +32,6 @@ fn folder(name: &str) -> Folder {
 #[test]
 fn store_not_sound() {
     let folder = folder("refused-1");
-    refused(&folder, "make other --keys 0", Refusal::StoreNotSound);
-    refused(&folder, "make other --keys 65", Refusal::StoreNotSound);
-    let huge = "make other --keys 18446744073709551615";
-    refused(&folder, huge, Refusal::StoreNotSound);
     let mut damaged = folder.read("ward");
     damaged[2] = 1;
     folder.write("damaged", &damaged);
@@ -54,6 +50,19 @@ fn store_not_sound() {
             refused(&folder, &line, Refusal::StoreNotSound);
         }
     }
+}
+
+/// It is the number of keys that is wrong, not a store.
+#[test]
+fn number_of_keys() {
+    let folder = folder("refused-keys");
+    let files = folder.files();
+    for keys in [0, 65, u64::MAX] {
+        let message = folder.fails(&format!("make other --keys {keys}"), 1);
+        let expected = "sframe: refused (1): a store has room for 1 to 64 keys\n";
+        assert_eq!(message, expected);
+    }
+    assert_eq!(folder.files(), files);
 }
 
 #[test]
@@ -150,6 +159,37 @@ fn too_long() {
     }
     folder.write("much", &[&[0x80, 200][..], &[0; 1_000_000]].concat());
     refused(&folder, "open doctor --in much", Refusal::TooLong);
+}
+
+/// Hex that is too long is refused as the bytes would be; white space does not
+/// count.
+#[test]
+fn too_long_in_hex() {
+    let folder = folder("refused-hex");
+    folder.write("most", &[0; 32_768]);
+    folder.done("seal ward --kid 200 --in most --hex --out frame");
+    let frame = String::from_utf8(folder.read("frame")).unwrap();
+    let spaced: String = frame
+        .chars()
+        .map(|digit| format!(" \n\t {digit}"))
+        .collect();
+    folder.write("spaced", spaced.as_bytes());
+    assert_eq!(folder.done("open doctor --in spaced --hex"), [0; 32_768]);
+    for more in [16, 1_000_000] {
+        let long = frame.clone() + &"00".repeat(more);
+        folder.write("long", long.as_bytes());
+        refused(&folder, "open doctor --in long --hex", Refusal::TooLong);
+        let header = folder.done("header --in long --hex");
+        assert!(header.starts_with(b"key number 200, counter 1,"));
+    }
+
+    let add = "add ward --sending --kid 1 --suite 4 --key long --hex";
+    for bytes in [65, 100_000] {
+        folder.write("long", "07".repeat(bytes).as_bytes());
+        refused(&folder, add, Refusal::BaseKeyLength);
+    }
+    folder.write("long", "07 \n".repeat(64).as_bytes());
+    folder.done(add);
 }
 
 #[test]

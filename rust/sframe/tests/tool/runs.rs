@@ -53,6 +53,22 @@ fn ways_to_give_a_key() {
     }
 }
 
+/// A key that is given in the place of its file is not shown.
+#[test]
+fn a_key_as_an_argument() {
+    let folder = Folder::with_stores("no-key", 4);
+    let key = "00112233445566778899aabbccddeeff";
+    let add = format!("add ward --sending --kid 1 --suite 4 --key {key}");
+    for line in [add.clone(), add.clone() + " --hex"] {
+        let message = folder.fails(&line, 74);
+        assert!(message.starts_with("sframe: --key: "), "{message}");
+        assert!(!message.contains("0011"), "{message}");
+    }
+    folder.write(key, b"no hex");
+    let message = folder.fails(&(add + " --hex"), 65);
+    assert_eq!(message, "sframe: --key: not hex\n");
+}
+
 #[test]
 fn list_shows_everything_but_keys() {
     let folder = Folder::with_stores("list", 4);
@@ -109,11 +125,17 @@ fn wrong_command_lines() {
     folder.write("picture", b"a picture");
     let before = folder.read("ward");
     folder.fails("seal ward --kid 200 --in picture --out ward", 64);
-    folder.fails(
-        "seal ward --kid 200 --in picture --out ./../tool-usage/ward",
-        64,
-    );
+    let out = folder.path("./ward");
+    let seal = "seal ward --kid 200 --in picture --out";
+    fails(seal, 64, folder.command(seal).arg(out).output().unwrap());
     assert_eq!(folder.read("ward"), before);
+    // Nor is a store made or used where another one has its own files.
+    let files = folder.files();
+    folder.fails("make other.lock --keys 1", 64);
+    folder.fails("make .other.new --keys 1", 64);
+    folder.fails("list ward.lock", 64);
+    assert_eq!(folder.files(), files);
+    folder.done("make other.new --keys 1");
 }
 
 #[test]
@@ -123,8 +145,6 @@ fn inputs_that_are_no_hex() {
     for text in ["8", "80c", "zz", "0x80"] {
         fails(open, 65, folder.run_with_input(open, text.as_bytes()));
     }
-    let long = "00".repeat(400_000);
-    fails(open, 65, folder.run_with_input(open, long.as_bytes()));
 }
 
 #[test]
@@ -143,6 +163,11 @@ fn files_that_fail() {
         folder.fails(line, 74);
     }
     assert_eq!(folder.files(), before);
+    // The message stays on one line.
+    for line in ["list", "open doctor --in"] {
+        let output = folder.command(line).arg("no\nwhere").output().unwrap();
+        fails(line, 74, output);
+    }
 }
 
 /// Making anew would start the counters from 0.
@@ -163,7 +188,69 @@ fn a_store_is_its_owners_alone() {
     assert_eq!(metadata.permissions().mode() & 0o777, 0o600);
 }
 
-/// A store with two names is locked and replaced as one.
+/// Whatever stands where the new store is written first, no key goes there.
+#[cfg(unix)]
+#[test]
+fn a_file_in_the_way() {
+    use std::os::unix::fs::{symlink, PermissionsExt};
+    let folder = Folder::with_stores("in-the-way", 4);
+    let mode = |file| {
+        let metadata = std::fs::symlink_metadata(folder.path(file)).unwrap();
+        assert!(metadata.is_file(), "{file}");
+        metadata.permissions().mode() & 0o777
+    };
+
+    folder.write(".ward.new", b"");
+    let readable = PermissionsExt::from_mode(0o644);
+    std::fs::set_permissions(folder.path(".ward.new"), readable).unwrap();
+    // Who has it open already sees nothing of the store.
+    let other = folder.path("other");
+    std::fs::hard_link(folder.path(".ward.new"), &other).unwrap();
+    folder.done("seal ward --kid 200 --in key --out frame");
+    assert_eq!((mode("ward"), folder.read("other")), (0o600, vec![]));
+
+    symlink("other", folder.path(".ward.new")).unwrap();
+    folder.done("seal ward --kid 200 --in key --out frame");
+    assert_eq!((mode("ward"), folder.read("other")), (0o600, vec![]));
+    let header = folder.done("header --in frame");
+    assert!(header.starts_with(b"key number 200, counter 1,"));
+}
+
+/// Each of two hard links would get a store and counters of its own.
+#[cfg(unix)]
+#[test]
+fn a_store_with_hard_links() {
+    let folder = Folder::with_stores("hard-link", 4);
+    folder.done("seal ward --kid 200 --in key --out frame");
+    for (store, other) in [("ward", "b"), ("doctor", "c")] {
+        std::fs::hard_link(folder.path(store), folder.path(other)).unwrap();
+    }
+    let before = folder.read("ward");
+    for store in ["ward", "b"] {
+        let add = format!("add {store} --sending --kid 1 --suite 4 --key key");
+        let remove = format!("remove {store} --kid 200");
+        let seal = format!("seal {store} --kid 200 --in key");
+        for line in [add, remove, seal] {
+            let message = folder.fails(&line, 74);
+            assert!(message.contains("hard links"), "{message}");
+        }
+        folder.done(&format!("list {store}"));
+    }
+    assert_eq!(folder.read("ward"), before);
+    assert_eq!(folder.read("b"), before);
+
+    // Nor is a result written to the store under its other name.
+    let before = folder.read("doctor");
+    folder.fails("open doctor --in frame --out c", 64);
+    assert_eq!(folder.read("doctor"), before);
+
+    std::fs::remove_file(folder.path("b")).unwrap();
+    folder.done("seal ward --kid 200 --in key --out frame");
+    let header = folder.done("header --in frame");
+    assert!(header.starts_with(b"key number 200, counter 1,"));
+}
+
+/// A store and a symbolic link to it are locked and replaced as one.
 #[cfg(unix)]
 #[test]
 fn a_link_stays_a_link() {

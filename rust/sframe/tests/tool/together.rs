@@ -5,7 +5,7 @@ use super::folder::Folder;
 use sframe::{read_header, Metadata, StoreView};
 use std::collections::BTreeSet;
 use std::thread;
-use std::time::Duration;
+use std::time::Instant;
 
 /// The counter of a frame that opens at the other end.
 fn counter(doctor: &[u8], frame: &[u8]) -> u64 {
@@ -38,31 +38,56 @@ fn many_at_once() {
     assert!(counters.into_iter().eq(0..(THREADS * RUNS) as u64));
 }
 
-/// The time after which a run is killed sweeps over the length of a run.
+/// The time after which a run is killed sweeps over the length of a run and as
+/// much again; further where the machine has become so slow that no run ends.
 #[test]
 fn killed_at_any_time() {
+    const RUNS: u32 = 100;
     let folder = Folder::with_stores("killed", 4);
     folder.write("picture", b"a picture");
     let doctor = folder.read("doctor");
     let mut last = None;
-    for run in 0..100 {
-        let mut child = folder
-            .command("seal ward --kid 200 --in picture")
-            .spawn()
-            .expect("the tool starts");
-        thread::sleep(Duration::from_micros(run * 40));
-        // It may have ended by itself.
-        let _ = child.kill();
-        let output = child.wait_with_output().expect("the tool ends");
-        if !output.stdout.is_empty() {
-            let counter = counter(&doctor, &output.stdout);
-            assert!(last < Some(counter), "{counter} after {last:?}");
-            last = Some(counter);
+    let mut whole_run = || {
+        let start = Instant::now();
+        let frame = folder.done("seal ward --kid 200 --in picture");
+        let time = start.elapsed();
+        last = Some(counter(&doctor, &frame));
+        time
+    };
+    let mut longest = 2 * whole_run().min(whole_run()).min(whole_run());
+
+    let (mut given_out, mut killed) = (0, 0);
+    for _sweep in 0..6 {
+        for run in 0..RUNS {
+            let mut child = folder
+                .command("seal ward --kid 200 --in picture")
+                .spawn()
+                .expect("the tool starts");
+            thread::sleep(longest * run / RUNS);
+            // It may have ended by itself.
+            let _ = child.kill();
+            let output = child.wait_with_output().expect("the tool ends");
+            if output.stdout.is_empty() {
+                killed += 1;
+            } else {
+                let counter = counter(&doctor, &output.stdout);
+                assert!(last < Some(counter), "{counter} after {last:?}");
+                last = Some(counter);
+                given_out += 1;
+            }
+            let store = folder.read("ward");
+            let records = StoreView::over(&store).records().expect("a sound store");
+            assert!(last < Some(records[0].next.0));
         }
-        let store = folder.read("ward");
-        let records = StoreView::over(&store).records().expect("a sound store");
-        assert!(last < Some(records[0].next.0));
+        if given_out > 0 && killed > 0 {
+            break;
+        }
+        longest *= 2;
     }
+    assert!(
+        given_out > 0 && killed > 0,
+        "{given_out} frames given out, {killed} runs without one"
+    );
     // No lock outlasts its run.
     let frame = folder.done("seal ward --kid 200 --in picture");
     assert!(last < Some(counter(&doctor, &frame)));

@@ -60,8 +60,7 @@ pub struct Streams {
 
 impl Command {
     /// The command that the arguments spell, without the program's name.
-    pub fn parse(arguments: impl Iterator<Item = OsString>) -> Result<Command, Failure> {
-        let mut arguments = arguments.peekable();
+    pub fn parse(mut arguments: impl Iterator<Item = OsString>) -> Result<Command, Failure> {
         let name = match arguments.next().map(OsString::into_string) {
             None => return Err(Failure::usage("no command is given")),
             Some(Ok(name)) => name,
@@ -101,7 +100,7 @@ impl Command {
                 streams: words.streams()?,
             },
             "header" => words.header()?,
-            _ => return Err(Failure::usage(format!("there is no command `{name}`"))),
+            _ => return Err(Failure::usage(format!("there is no command {name:?}"))),
         };
         words.finish()?;
         Ok(command)
@@ -149,7 +148,9 @@ impl Words {
             } else if let Some(name) = FLAGS.into_iter().find(|&name| name == text) {
                 words.flags.push(name);
             } else if text.starts_with('-') && text != "-" {
-                return Err(Failure::usage(format!("there is no option {text}")));
+                // What follows a `=` is not shown: it could be a key.
+                let name = text.split_inclusive('=').next().unwrap_or_default();
+                return Err(Failure::usage(format!("there is no option {name:?}")));
             } else {
                 words.plain.push(word);
             }
@@ -183,10 +184,7 @@ impl Words {
             None if digits_only(text) => text.parse().ok(),
             _ => None,
         }
-        .ok_or_else(|| {
-            let value = value.display();
-            Failure::usage(format!("{name} {value}: not a number of up to 64 bits"))
-        })
+        .ok_or_else(|| Failure::usage(format!("{name} {value:?}: not a number of up to 64 bits")))
     }
 
     fn store(&mut self) -> Result<PathBuf, Failure> {

@@ -8,14 +8,14 @@ use crate::hex;
 use crate::input::Place;
 use crate::store_file::StoreFile;
 use sframe::{
-    raw, read_header, write_header, Ctr, Kid, Metadata, Refusal, Role, Store, StoreView,
-    MAX_BASE_KEY, MAX_HEADER, MAX_METADATA, MAX_PLAINTEXT, MAX_RECORDS, RECORD,
+    frame_room, raw, read_header, write_header, Ctr, Kid, Metadata, Refusal, Role, Store,
+    StoreView, Suite, MAX_BASE_KEY, MAX_HEADER, MAX_METADATA, MAX_PLAINTEXT, MAX_RECORDS, RECORD,
 };
 use std::io::Write;
 use std::path::Path;
 
-/// A length that no frame reaches which could be opened.
-const MAX_FRAME: usize = MAX_HEADER + MAX_PLAINTEXT + 16;
+/// The longest frame that can be opened; the suite is one with the longest tag.
+const MAX_FRAME: usize = frame_room(Suite::Aes128GcmSha256_128, MAX_PLAINTEXT);
 
 /// Runs a command. What it has to say goes to `out`.
 pub fn run(command: Command, disk: &mut impl Disk, out: &mut impl Write) -> Result<(), Failure> {
@@ -31,9 +31,11 @@ pub fn run(command: Command, disk: &mut impl Disk, out: &mut impl Write) -> Resu
             hex,
         } => {
             let base_key = match hex {
-                true => key.read_hex(MAX_BASE_KEY)?,
-                false => key.read(MAX_BASE_KEY)?,
+                true => key.read_hex(MAX_BASE_KEY),
+                false => key.read(MAX_BASE_KEY),
             };
+            // The path is not shown: by mistake it could be the key.
+            let base_key = base_key.map_err(|failure| failure.naming("--key"))?;
             change(disk, &store, |bytes| {
                 add(bytes, role, kid, suite, &base_key)
             })
@@ -67,12 +69,12 @@ fn make(disk: &mut impl Disk, path: &Path, keys: u64) -> Result<(), Failure> {
     // More records than a store may have are refused like any other number.
     let records = keys.min(MAX_RECORDS as u64 + 1) as usize;
     let mut bytes = vec![0; records * RECORD];
-    Store::make(&mut bytes)?;
+    Store::make(&mut bytes).map_err(Failure::MakeRefused)?;
 
     let _lock = file.lock()?;
     if disk.exists(file.path()).map_err(Failure::at(file.path()))? {
         let error = std::io::ErrorKind::AlreadyExists.into();
-        return Err(Failure::io(path.display().to_string(), error));
+        return Err(Failure::at(path)(error));
     }
     file.replace(disk, &bytes)
 }
@@ -87,6 +89,7 @@ fn change<T>(
     // No file means no lock file either.
     file.read(disk)?;
     let _lock = file.lock()?;
+    file.check_one_name(disk)?;
     let mut bytes = file.read(disk)?;
     let answer = call(&mut bytes)?;
     file.replace(disk, &bytes)?;
@@ -106,7 +109,11 @@ fn add(
         Role::Sending => raw::add_sending(store, kid, suite, base_key),
         Role::Receiving => raw::add_receiving(store, kid, suite, base_key),
     };
-    Refusal::from_number(number).map_or(Ok(()), Err)
+    match (number, Refusal::from_number(number)) {
+        (0, _) => Ok(()),
+        (_, Some(refusal)) => Err(refusal),
+        (_, None) => unreachable!("the library answers no number {number}"),
+    }
 }
 
 fn list(disk: &mut impl Disk, path: &Path, out: &mut impl Write) -> Result<(), Failure> {
@@ -170,7 +177,7 @@ fn open(
 /// Refuses to write the result over the store.
 fn spare_store(store: &Path, output: &Place) -> Result<(), Failure> {
     match output {
-        Place::File(path) if StoreFile::at(path)? == StoreFile::at(store)? => {
+        Place::File(path) if StoreFile::at(store)?.is_at(path) => {
             Err(Failure::usage("--out is the store itself"))
         }
         _ => Ok(()),

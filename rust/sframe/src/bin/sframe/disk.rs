@@ -14,7 +14,12 @@ pub trait Disk {
     fn exists(&mut self, path: &Path) -> io::Result<bool>;
     /// The first `most` bytes of a file.
     fn read(&mut self, path: &Path, most: usize) -> io::Result<Vec<u8>>;
-    /// Opens a file for writing, empty, that others than its owner cannot read.
+    /// How many names (hard links) a file has, as far as the system tells.
+    fn links(&mut self, path: &Path) -> io::Result<u64>;
+    /// Removes a file, if there is one. A link is removed, not what it leads to.
+    fn remove(&mut self, path: &Path) -> io::Result<()>;
+    /// Makes a file for writing that others than its owner cannot read, where
+    /// nothing has that name.
     fn create(&mut self, path: &Path) -> io::Result<Self::File>;
     /// Writes to a file.
     fn write(&mut self, file: &mut Self::File, bytes: &[u8]) -> io::Result<()>;
@@ -45,9 +50,26 @@ impl Disk for RealDisk {
         Ok(bytes)
     }
 
+    #[cfg(unix)]
+    fn links(&mut self, path: &Path) -> io::Result<u64> {
+        fs::metadata(path).map(|metadata| std::os::unix::fs::MetadataExt::nlink(&metadata))
+    }
+
+    #[cfg(not(unix))]
+    fn links(&mut self, _path: &Path) -> io::Result<u64> {
+        Ok(1)
+    }
+
+    fn remove(&mut self, path: &Path) -> io::Result<()> {
+        match fs::remove_file(path) {
+            Err(error) if error.kind() == io::ErrorKind::NotFound => Ok(()),
+            result => result,
+        }
+    }
+
     fn create(&mut self, path: &Path) -> io::Result<File> {
         let mut options = OpenOptions::new();
-        options.write(true).create(true).truncate(true);
+        options.write(true).create_new(true);
         #[cfg(unix)]
         std::os::unix::fs::OpenOptionsExt::mode(&mut options, 0o600);
         options.open(path)

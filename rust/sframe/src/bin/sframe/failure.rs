@@ -1,14 +1,14 @@
 //! Why a run fails, and with which exit status.
 
-use sframe::Refusal;
+use sframe::{Refusal, MAX_RECORDS};
 use std::fmt;
 use std::io;
 use std::path::Path;
 
 /// The command line is not one that the tool takes.
 pub const USAGE: u8 = 64;
-/// An input is not of the form that was announced.
-pub const DATA: u8 = 65;
+/// An input is not hex.
+pub const NOT_HEX: u8 = 65;
 /// A file or a stream failed.
 pub const IO: u8 = 74;
 
@@ -17,10 +17,13 @@ pub const IO: u8 = 74;
 pub enum Failure {
     /// The sealing layer refused.
     Refused(Refusal),
+    /// The sealing layer refused to make a store, which it does only for its
+    /// length.
+    MakeRefused(Refusal),
     /// The command line is wrong.
     Usage(String),
-    /// An input is wrong.
-    Data(String),
+    /// An input is not hex; the text says which one.
+    NotHex(String),
     /// A file or a stream failed.
     Io {
         /// What failed.
@@ -44,15 +47,24 @@ impl Failure {
 
     /// For `map_err`: a failure of the file at `path`.
     pub fn at(path: &Path) -> impl FnOnce(io::Error) -> Failure + '_ {
-        |error| Failure::io(path.display().to_string(), error)
+        move |error| Failure::io(format!("{path:?}"), error)
+    }
+
+    /// The same failure of an input that is called `name`.
+    pub fn naming(self, name: &str) -> Self {
+        match self {
+            Failure::NotHex(_) => Failure::NotHex(name.into()),
+            Failure::Io { error, .. } => Failure::io(name, error),
+            other => other,
+        }
     }
 
     /// The exit status: a refusal's own number, or one above them all.
     pub fn status(&self) -> u8 {
         match self {
-            Failure::Refused(refusal) => refusal.number() as u8,
+            Failure::Refused(refusal) | Failure::MakeRefused(refusal) => refusal.number() as u8,
             Failure::Usage(_) => USAGE,
-            Failure::Data(_) => DATA,
+            Failure::NotHex(_) => NOT_HEX,
             Failure::Io { .. } => IO,
         }
     }
@@ -68,8 +80,15 @@ impl fmt::Display for Failure {
     fn fmt(&self, f: &mut fmt::Formatter) -> fmt::Result {
         match self {
             Failure::Refused(refusal) => write!(f, "refused ({}): {refusal}", refusal.number()),
+            Failure::MakeRefused(refusal) => {
+                let number = refusal.number();
+                write!(
+                    f,
+                    "refused ({number}): a store has room for 1 to {MAX_RECORDS} keys"
+                )
+            }
             Failure::Usage(text) => write!(f, "{text}; `sframe --help` shows how to call it"),
-            Failure::Data(text) => f.write_str(text),
+            Failure::NotHex(what) => write!(f, "{what}: not hex"),
             Failure::Io { what, error } => write!(f, "{what}: {error}"),
         }
     }

@@ -42,17 +42,24 @@ and --out are when they are left out. Numbers are decimal, or hex after 0x.
 
 A store is replaced as a whole or not at all, and a new counter is on the disk
 before the frame under the old one is given out. STORE.lock keeps two runs from
-using one store at the same time. Never seal with a copy of a store: the copy
-would use the same counters again.
+changing one store at the same time; open and list change nothing and take no
+lock. That file stays: do not remove it while a run may use the store. No store
+may be named like STORE.lock or .STORE.new, and a store that has several hard
+links is not changed.
+
+Frames are no longer safe once a key has used a counter twice. That happens with
+a copy of a store, with a store put back as it was before, say from a backup,
+and with a new store that gets the same keys for sending: never seal with these.
 
 Exit status: 0 done; 1 to 13 refused, with these causes:
-   1  the store is not sound              8  the key has no counter left
-   2  no such suite                       9  plaintext above 32768 bytes, or
-   3  base key not of 16 to 64 bytes         metadata above 1024
-   4  key number already in the store    10  header cut short or not shortest
-   5  no empty record left               11  frame too short for a tag
-   6  key number not in the store        12  room too short (not met here)
-   7  role does not allow it             13  the tag does not match
+   1  the store is not sound, or not      8  the key has no counter left
+      1 to 64 keys in making              9  plaintext above 32768 bytes, or
+   2  no such suite                          metadata above 1024
+   3  base key not of 16 to 64 bytes     10  header cut short or not shortest
+   4  key number already in the store    11  frame too short for a tag
+   5  no empty record left               12  room too short (not met here)
+   6  key number not in the store        13  the tag does not match
+   7  role does not allow it
 64 the command line is wrong; 65 an input is not hex; 74 a file failed.
 
 Example, sealing at one end and opening at the other:

@@ -1,11 +1,9 @@
 //! Hexadecimal text.
 
-/// The bytes that `text` writes in hex, white space aside; `None` where it is
-/// no hex.
+/// The bytes that `text` writes in hex; `None` where it is no hex.
 pub fn decode(text: &[u8]) -> Option<Vec<u8>> {
     let digits = text
         .iter()
-        .filter(|byte| !byte.is_ascii_whitespace())
         .map(|&byte| char::from(byte).to_digit(16))
         .collect::<Option<Vec<u32>>>()?;
     let pairs = digits.chunks_exact(2);

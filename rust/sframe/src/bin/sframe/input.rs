@@ -4,7 +4,7 @@ use crate::failure::Failure;
 use crate::hex;
 use std::ffi::OsString;
 use std::fs::File;
-use std::io::{self, Read, Write};
+use std::io::{self, BufRead, BufReader, Read, Write};
 use std::path::PathBuf;
 
 /// A file, or the standard stream that `-` names.
@@ -27,30 +27,29 @@ impl Place {
     /// Reads up to one byte more than `most`, so that what is too long is still
     /// seen to be too long, and no input takes more memory than that.
     pub fn read(&self, most: usize) -> Result<Vec<u8>, Failure> {
-        self.read_up_to(most as u64 + 1)
-    }
-
-    /// As [`read`](Self::read), from hex.
-    pub fn read_hex(&self, most: usize) -> Result<Vec<u8>, Failure> {
-        // Two digits for each byte, and white space around each of them.
-        let limit = 8 * (most as u64 + 1);
-        let text = self.read_up_to(limit)?;
-        if text.len() as u64 == limit {
-            return Err(Failure::Data(format!("{}: too much hex", self.name())));
-        }
-        hex::decode(&text).ok_or_else(|| Failure::Data(format!("{}: not hex", self.name())))
-    }
-
-    fn read_up_to(&self, limit: u64) -> Result<Vec<u8>, Failure> {
         let mut bytes = vec![];
-        match self {
-            Place::Standard => io::stdin().lock().take(limit).read_to_end(&mut bytes),
-            Place::File(path) => {
-                File::open(path).and_then(|file| file.take(limit).read_to_end(&mut bytes))
-            }
-        }
-        .map_err(|error| Failure::io(self.name(), error))?;
+        self.source()
+            .and_then(|source| source.take(most as u64 + 1).read_to_end(&mut bytes))
+            .map_err(|error| Failure::io(self.name(), error))?;
         Ok(bytes)
+    }
+
+    /// As [`read`](Self::read), from hex with any white space between the digits.
+    pub fn read_hex(&self, most: usize) -> Result<Vec<u8>, Failure> {
+        let is_space = |byte: &io::Result<u8>| matches!(byte, Ok(b) if b.is_ascii_whitespace());
+        let digits = self.source().and_then(|source| {
+            let digits = source.bytes().filter(|byte| !is_space(byte));
+            digits.take(2 * (most + 1)).collect::<io::Result<Vec<u8>>>()
+        });
+        let digits = digits.map_err(|error| Failure::io(self.name(), error))?;
+        hex::decode(&digits).ok_or_else(|| Failure::NotHex(self.name()))
+    }
+
+    fn source(&self) -> io::Result<Box<dyn BufRead>> {
+        match self {
+            Place::Standard => Ok(Box::new(io::stdin().lock())),
+            Place::File(path) => Ok(Box::new(BufReader::new(File::open(path)?))),
+        }
     }
 
     /// Writes `bytes` to the file, or to `standard`.
@@ -68,7 +67,7 @@ impl Place {
     fn name(&self) -> String {
         match self {
             Place::Standard => "standard input".into(),
-            Place::File(path) => path.display().to_string(),
+            Place::File(path) => format!("{path:?}"),
         }
     }
 }

@@ -22,7 +22,8 @@ fn main() -> ExitCode {
     match run() {
         Ok(()) => ExitCode::SUCCESS,
         Err(failure) => {
-            eprintln!("sframe: {failure}");
+            // Where nobody reads it, the status still tells.
+            let _ = writeln!(io::stderr(), "sframe: {failure}");
             ExitCode::from(failure.status())
         }
     }

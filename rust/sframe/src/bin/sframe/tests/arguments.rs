@@ -109,9 +109,29 @@ fn wrong_lines() {
     }
 }
 
-/// A word too many could be a key.
+/// A message stays on one line, whatever it repeats.
+#[test]
+fn words_with_a_newline() {
+    for words in [
+        &["a\nb"][..],
+        &["list", "-a\nb"],
+        &["remove", "ward", "--kid", "a\nb"],
+    ] {
+        let failure = Command::parse(words.iter().map(OsString::from)).unwrap_err();
+        let message = failure.to_string();
+        assert!(message.contains(r"a\nb"), "{message}");
+        assert!(!message.contains('\n'), "{message}");
+    }
+}
+
+/// A word too many could be a key, and so could a value after `=`.
 #[test]
 fn a_stray_argument_is_not_repeated() {
-    let message = parse("list ward 00112233445566778899aabbccddeeff").unwrap_err();
-    assert!(!message.contains("0011"), "{message}");
+    for line in [
+        "list ward 00112233445566778899aabbccddeeff",
+        "add ward --key=00112233445566778899aabbccddeeff",
+    ] {
+        let message = parse(line).unwrap_err();
+        assert!(!message.contains("0011"), "{message}");
+    }
 }

@@ -4,6 +4,7 @@
 use super::memory_disk::{MemoryDisk, Unsynced};
 use crate::arguments::{Command, Streams};
 use crate::commands;
+use crate::disk::Disk;
 use crate::failure::Failure;
 use crate::input::Place;
 use sframe::{read_header, Ctr, Kid, Role, StoreView};
@@ -42,7 +43,7 @@ impl Setup {
         };
         let mut disk = setup.disk.clone();
         setup.run(&mut disk, setup.make()).unwrap();
-        setup.run(&mut disk, setup.add()).unwrap();
+        setup.run(&mut disk, setup.add(KID)).unwrap();
         setup.disk = disk;
         setup
     }
@@ -58,11 +59,11 @@ impl Setup {
         }
     }
 
-    fn add(&self) -> Command {
+    fn add(&self, kid: Kid) -> Command {
         Command::Add {
             store: self.store(),
             role: Role::Sending,
-            kid: KID,
+            kid,
             suite: 4,
             key: Place::File(self.folder.join("key")),
             hex: false,
@@ -94,10 +95,14 @@ impl Setup {
         Some(counter)
     }
 
+    /// The bytes of the store on a disk.
+    fn bytes(&self, disk: &MemoryDisk) -> Vec<u8> {
+        disk.clone().read(&self.store(), 5_120).unwrap()
+    }
+
     /// The next counter that the store on a disk has.
     fn next(&self, disk: &MemoryDisk) -> u64 {
-        use crate::disk::Disk;
-        let bytes = disk.clone().read(&self.store(), 5_120).unwrap();
+        let bytes = self.bytes(disk);
         let records = StoreView::over(&bytes).records().unwrap();
         records[0].next.0
     }
@@ -132,11 +137,28 @@ fn sealing_stopped_at_every_step() {
             assert_eq!(setup.next(&disk), next + 1);
         }
         if given_out.is_some() {
-            assert!(step >= 7, "two reads, create, write, sync, rename, sync");
+            assert!(
+                step >= 9,
+                "two reads, links, remove, create, write, sync, rename, sync"
+            );
             break;
         }
     }
     assert!(old > 0 && new > 0);
+}
+
+/// A run that fails, but is not stopped, leaves nothing beside the store.
+#[test]
+fn sealing_with_one_failing_step() {
+    let setup = Setup::new("failing");
+    for step in 0.. {
+        let mut disk = setup.disk.failing_at(step);
+        let given_out = setup.counter(&mut disk);
+        assert_eq!(disk.names(), [setup.store()], "failed at {step}");
+        if given_out.is_some() {
+            break;
+        }
+    }
 }
 
 /// Many runs in a row, each stopped at another step and restarted in another
@@ -147,7 +169,7 @@ fn many_stopped_runs() {
     let mut disk = setup.disk.clone();
     let mut counters = vec![];
     for run in 0..2_000 {
-        let mut stopped = disk.stopping_at(run * 7 % 11);
+        let mut stopped = disk.stopping_at(run * 7 % 13);
         counters.extend(setup.counter(&mut stopped));
         let (names, contents) = RESTARTS[run / 3 % 4];
         disk = stopped.restarted(names, contents);
@@ -156,20 +178,60 @@ fn many_stopped_runs() {
     assert!(counters.is_sorted_by(|one, next| one < next));
 }
 
-/// Adding and making leave the old store or the new one, never a part.
+/// Adding and removing leave the old store or the new one, never a part.
 #[test]
-fn other_changes_stopped_at_every_step() {
+fn adding_and_removing_stopped_at_every_step() {
     let setup = Setup::new("others");
+    let old = setup.bytes(&setup.disk);
+    let add = || setup.add(Kid(7));
+    let remove = || Command::Remove {
+        store: setup.store(),
+        kid: KID,
+    };
+    let commands: [&dyn Fn() -> Command; 2] = [&add, &remove];
+    for command in commands {
+        let mut disk = setup.disk.clone();
+        setup.run(&mut disk, command()).unwrap();
+        let new = setup.bytes(&disk);
+        assert_ne!(old, new);
+
+        let (mut left_old, mut left_new) = (0, 0);
+        for step in 0.. {
+            let mut disk = setup.disk.stopping_at(step);
+            let done = setup.run(&mut disk, command()).is_ok();
+            for (names, contents) in RESTARTS {
+                let left = setup.bytes(&disk.restarted(names, contents));
+                if left == new {
+                    left_new += 1;
+                } else {
+                    assert!(!done, "stopped at {step}, {names:?}, {contents:?}");
+                    assert_eq!(left, old, "stopped at {step}, {names:?}, {contents:?}");
+                    left_old += 1;
+                }
+            }
+            if done {
+                break;
+            }
+        }
+        // More than the four of the run that was done.
+        assert!(left_old > 0 && left_new > 4);
+    }
+}
+
+/// Making leaves no store or the whole one.
+#[test]
+fn making_stopped_at_every_step() {
+    let setup = Setup::new("making");
     for step in 0..12 {
         let mut disk = MemoryDisk::default().stopping_at(step);
         let made = setup.run(&mut disk, setup.make()).is_ok();
         for (names, contents) in RESTARTS {
             let mut disk = disk.restarted(names, contents);
             // Where no store is left, it can be made.
-            if setup.run(&mut disk, setup.add()).is_err() {
+            if setup.run(&mut disk, setup.add(KID)).is_err() {
                 assert!(!made);
                 setup.run(&mut disk, setup.make()).unwrap();
-                setup.run(&mut disk, setup.add()).unwrap();
+                setup.run(&mut disk, setup.add(KID)).unwrap();
             }
             assert_eq!(setup.counter(&mut disk), Some(0));
         }

@@ -27,6 +27,7 @@ pub struct MemoryDisk {
     synced_names: HashMap<PathBuf, usize>,
     steps: usize,
     stop_at: Option<usize>,
+    fail_at: Option<usize>,
 }
 
 impl MemoryDisk {
@@ -38,6 +39,20 @@ impl MemoryDisk {
             stop_at: Some(step),
             ..self.clone()
         }
+    }
+
+    /// The same disk, which fails at the given step alone.
+    pub fn failing_at(&self, step: usize) -> Self {
+        MemoryDisk {
+            steps: 0,
+            fail_at: Some(step),
+            ..self.clone()
+        }
+    }
+
+    /// The names of the files.
+    pub fn names(&self) -> Vec<&Path> {
+        self.names.keys().map(PathBuf::as_path).collect()
     }
 
     /// The disk after a restart. A killed run loses nothing; a power cut may
@@ -74,7 +89,10 @@ impl MemoryDisk {
             return Err(io::Error::other("stopped"));
         }
         self.steps += 1;
-        Ok(())
+        match self.fail_at {
+            Some(step) if self.steps == step + 1 => Err(io::Error::other("failed")),
+            _ => Ok(()),
+        }
     }
 
     fn find(&self, path: &Path) -> io::Result<usize> {
@@ -97,11 +115,22 @@ impl Disk for MemoryDisk {
         Ok(bytes[..bytes.len().min(most)].to_vec())
     }
 
+    fn links(&mut self, path: &Path) -> io::Result<u64> {
+        self.step()?;
+        let file = self.find(path)?;
+        Ok(self.names.values().filter(|&&other| other == file).count() as u64)
+    }
+
+    fn remove(&mut self, path: &Path) -> io::Result<()> {
+        self.step()?;
+        self.names.remove(path);
+        Ok(())
+    }
+
     fn create(&mut self, path: &Path) -> io::Result<usize> {
         self.step()?;
-        if let Ok(file) = self.find(path) {
-            self.files[file].written.clear();
-            return Ok(file);
+        if self.names.contains_key(path) {
+            return Err(io::ErrorKind::AlreadyExists.into());
         }
         self.files.push(Content::default());
         self.names.insert(path.into(), self.files.len() - 1);
@@ -134,9 +163,13 @@ impl Disk for MemoryDisk {
         Ok(())
     }
 
-    fn sync_folder(&mut self, _folder: &Path) -> io::Result<()> {
+    fn sync_folder(&mut self, folder: &Path) -> io::Result<()> {
         self.step()?;
-        self.synced_names.clone_from(&self.names);
+        let inside = |path: &Path| path.parent() == Some(folder);
+        self.synced_names.retain(|path, _| !inside(path));
+        let names = self.names.iter().filter(|(path, _)| inside(path));
+        self.synced_names
+            .extend(names.map(|(path, &file)| (path.clone(), file)));
         Ok(())
     }
 }

@@ -3,3 +3,5 @@
 mod arguments;
 mod kills;
 mod memory_disk;
+#[cfg(unix)]
+mod real_disk;
