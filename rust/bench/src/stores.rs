@@ -8,7 +8,10 @@ pub const KID: u64 = 200;
 
 /// The counter that sealing starts from. Headers keep their length from here
 /// until 2^24.
-const FIRST_COUNTER: u64 = 1 << 16;
+pub const FIRST_COUNTER: u64 = 1 << 16;
+
+/// The base key of every key.
+pub const BASE_KEY: [u8; 32] = [7; 32];
 
 /// A full store of so many records. The measured key is in the last one.
 pub fn full(records: usize, suite: Suite, role: Role) -> Vec<u8> {
@@ -18,7 +21,7 @@ pub fn full(records: usize, suite: Suite, role: Role) -> Vec<u8> {
     for place in 1..=records as u64 {
         let last = place == records as u64;
         let kid = if last { KID } else { 1_000 + place };
-        let done = add(&mut store, role, suite.number(), kid, &[7; 32]);
+        let done = add(&mut store, role, suite.number(), kid, &BASE_KEY);
         assert_eq!(done, Ok(0));
     }
     if role == Role::Sending {
