@@ -7,13 +7,7 @@
 #include <stdint.h>
 #include <string.h>
 
-static void put64(uint8_t *out, uint64_t x)
-{
-    for (int i = 7; i >= 0; i--) {
-        out[i] = (uint8_t)x;
-        x >>= 8;
-    }
-}
+#include "others.h"
 
 void others_bearssl_suite1(const uint8_t *key, const uint8_t *nonce, const uint8_t *aad, size_t aad_len, uint8_t *data,
                            size_t len, uint8_t *tag)
@@ -25,9 +19,7 @@ void others_bearssl_suite1(const uint8_t *key, const uint8_t *nonce, const uint8
 
     br_aes_big_ctr_init(&aes, key, 16);
     br_aes_big_ctr_run(&aes, nonce, 0, data, len);
-    put64(lengths, aad_len);
-    put64(lengths + 8, len);
-    put64(lengths + 16, 10);
+    put_lengths(lengths, aad_len, len);
     br_hmac_key_init(&hmac_key, &br_sha256_vtable, key + 16, 32);
     br_hmac_init(&hmac, &hmac_key, 0);
     br_hmac_update(&hmac, lengths, sizeof lengths);

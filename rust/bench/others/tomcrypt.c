@@ -7,13 +7,7 @@
 #include <string.h>
 #include <tomcrypt.h>
 
-static void put64(uint8_t *out, uint64_t x)
-{
-    for (int i = 7; i >= 0; i--) {
-        out[i] = (uint8_t)x;
-        x >>= 8;
-    }
-}
+#include "others.h"
 
 void others_tomcrypt_suite1(const uint8_t *key, const uint8_t *nonce, const uint8_t *aad, size_t aad_len, uint8_t *data,
                             size_t len, uint8_t *tag)
@@ -25,9 +19,7 @@ void others_tomcrypt_suite1(const uint8_t *key, const uint8_t *nonce, const uint
     unsigned long mac_len = sizeof mac;
 
     memcpy(block, nonce, 12);
-    put64(lengths, aad_len);
-    put64(lengths + 8, len);
-    put64(lengths + 16, 10);
+    put_lengths(lengths, aad_len, len);
     if (ctr_start(cipher, block, key, 16, 0, CTR_COUNTER_BIG_ENDIAN, &ctr) != CRYPT_OK
         || ctr_encrypt(data, data, (unsigned long)len, &ctr) != CRYPT_OK || ctr_done(&ctr) != CRYPT_OK
         || hmac_init(&hmac, hash, key + 16, 32) != CRYPT_OK || hmac_process(&hmac, lengths, sizeof lengths) != CRYPT_OK
