@@ -6,10 +6,12 @@ use native.Mathlib.Omega.{arith}
 use lib.ListN.{length}
 use Rattle.sha2.specs.Sha2.{Params, hash}
 use Rattle.sha2.specs.Sizes.{sha256, sha512}
-use Rattle.sha2.specs.Running.{maximum, Fed256, Fed512}
-use Rattle.sha2.specs.declared.sha256.Sha256.{Sha256}
-use Rattle.sha2.specs.declared.sha512.Sha512.{Sha512}
-use Rattle.running_hash.specs.Lent.{FedWith, Finished, digestOf}
+use Rattle.sha2.specs.Limits.{maximum}
+use Rattle.sha256.specs.inner.State.{Fed256}
+use Rattle.sha512.specs.inner.State.{Fed512}
+use Rattle.sha256.specs.declared.Sha256.{Sha256}
+use Rattle.sha512.specs.declared.Sha512.{Sha512}
+use Rattle.running_hash.specs.inner.Lent.{FedWith, Finished, digestOf}
 
 -- Of the functions by value: a state may be fed some bytes, and what it then is; it may be finished, and its digest; it is new.
 -- Of those on a lent state: what feeding and finishing make of it. The first give the second.
