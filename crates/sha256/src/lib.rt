@@ -14,8 +14,8 @@ ghost use lib.ListN.{length, take, drop};
 ghost use Rattle.sha2.specs.Sha2.{Ch, Maj, Σ0, Σ1, σ0, σ1, add, words, schedule, round, rounds, adds, compress, run, joined, zeros, hash};
 ghost use Rattle.sha2.specs.Sizes.{sha256};
 ghost use Rattle.sha2.specs.Limits.{maximum};
-ghost use Rattle.sha2.specs.inner.Running.{left, roomOf};
-ghost use Rattle.sha256.specs.inner.State.{words256, Fed256};
+ghost use Rattle.sha2.specs.inner.Running.{left, roomOf, fresh, fed, finished};
+ghost use Rattle.sha256.specs.inner.State.{words256, state256, Fed256};
 
 // Eight words: a hash value, or the working variables a to h.
 pub struct Words256 {
@@ -269,7 +269,7 @@ fn padded_end(len: u64) -> usize
 impl Sha256 {
     // Nothing has been fed.
     pub fn new() -> Sha256
-        ensures { λ r. ⌜ (Fed256 r []) × (r .len ≡ 0) ⌝ }
+        ensures { λ r. ⌜ (Fed256 r []) × (r .len ≡ 0) × (state256 r ≡ fresh sha256) ⌝ }
     {
         let value = Words256 {
             a: 0x6a09_e667,
@@ -291,7 +291,7 @@ impl Sha256 {
     // s has been fed after what was fed before.
     pub fn feed(self, s: &[u8]) -> Sha256
         requires { ⌜ self .len + length (now s) ≤ maximum ⌝ }
-        ensures { λ r. ⌜ ((m : List ℕ) → Fed256 self m → Fed256 r (m ++ now (s .entry))) × (r .len ≡ self .len + length (now (s .entry))) ⌝ }
+        ensures { λ r. ⌜ ((m : List ℕ) → Fed256 self m → Fed256 r (m ++ now (s .entry))) × (r .len ≡ self .len + length (now (s .entry))) × (state256 r ≡ fed sha256 (state256 self) (now (s .entry))) ⌝ }
     {
         let have = (self.len % 64) as usize;
         let len = self.len + s.len() as u64;
@@ -308,7 +308,7 @@ impl Sha256 {
     // The digest of what has been fed.
     pub fn finish(self) -> [u8; 32]
         requires { ⌜ self .len ≤ maximum ⌝ }
-        ensures { λ r. ⌜ ((m : List ℕ) → Fed256 self m → r ≡ hash sha256 m) × (length r ≡ 32) ⌝ }
+        ensures { λ r. ⌜ ((m : List ℕ) → Fed256 self m → r ≡ hash sha256 m) × (length r ≡ 32) × (r ≡ finished sha256 (state256 self)) ⌝ }
     {
         let have = (self.len % 64) as usize;
         let end = padded_end(self.len);

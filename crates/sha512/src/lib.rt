@@ -14,8 +14,8 @@ ghost use lib.ListN.{length, take, drop};
 ghost use Rattle.sha2.specs.Sha2.{Ch, Maj, Σ0, Σ1, σ0, σ1, add, words, schedule, round, rounds, adds, compress, run, joined, zeros, hash};
 ghost use Rattle.sha2.specs.Sizes.{sha512};
 ghost use Rattle.sha2.specs.Limits.{maximum};
-ghost use Rattle.sha2.specs.inner.Running.{left, roomOf};
-ghost use Rattle.sha512.specs.inner.State.{words512, Fed512};
+ghost use Rattle.sha2.specs.inner.Running.{left, roomOf, fresh, fed, finished};
+ghost use Rattle.sha512.specs.inner.State.{words512, state512, Fed512};
 
 // Eight words: a hash value, or the working variables a to h.
 pub struct Words512 {
@@ -269,7 +269,7 @@ fn padded_end(len: u64) -> usize
 impl Sha512 {
     // Nothing has been fed.
     pub fn new() -> Sha512
-        ensures { λ r. ⌜ (Fed512 r []) × (r .len ≡ 0) ⌝ }
+        ensures { λ r. ⌜ (Fed512 r []) × (r .len ≡ 0) × (state512 r ≡ fresh sha512) ⌝ }
     {
         let value = Words512 {
             a: 0x6a09_e667_f3bc_c908,
@@ -291,7 +291,7 @@ impl Sha512 {
     // s has been fed after what was fed before.
     pub fn feed(self, s: &[u8]) -> Sha512
         requires { ⌜ self .len + length (now s) ≤ maximum ⌝ }
-        ensures { λ r. ⌜ ((m : List ℕ) → Fed512 self m → Fed512 r (m ++ now (s .entry))) × (r .len ≡ self .len + length (now (s .entry))) ⌝ }
+        ensures { λ r. ⌜ ((m : List ℕ) → Fed512 self m → Fed512 r (m ++ now (s .entry))) × (r .len ≡ self .len + length (now (s .entry))) × (state512 r ≡ fed sha512 (state512 self) (now (s .entry))) ⌝ }
     {
         let have = (self.len % 128) as usize;
         let len = self.len + s.len() as u64;
@@ -308,7 +308,7 @@ impl Sha512 {
     // The digest of what has been fed.
     pub fn finish(self) -> [u8; 64]
         requires { ⌜ self .len ≤ maximum ⌝ }
-        ensures { λ r. ⌜ ((m : List ℕ) → Fed512 self m → r ≡ hash sha512 m) × (length r ≡ 64) ⌝ }
+        ensures { λ r. ⌜ ((m : List ℕ) → Fed512 self m → r ≡ hash sha512 m) × (length r ≡ 64) × (r ≡ finished sha512 (state512 self)) ⌝ }
     {
         let have = (self.len % 128) as usize;
         let end = padded_end(self.len);

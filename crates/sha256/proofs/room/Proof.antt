@@ -1,7 +1,8 @@
-use mathlib.Core.Path.{refl}
+use mathlib.Core.Path.{_≡_, refl}
+use mathlib.Core.List.{_++_}
 use native.Mathlib.Omega.{arith}
 use Prim.Native.Nat.{_-_}
-use lib.ListN.{length}
+use lib.ListN.{length, drop, replicate}
 use Rattle.sha2.specs.Sizes.{sha256}
 use Rattle.sha2.proofs.Steps.{room-filled}
 use borrow.Author.Needs.{needs}
@@ -22,8 +23,9 @@ returns : tie.Need-returns
 returns c =
     let at-copy = to-copy c in
     let at-start = to-start at-copy in
-    let a = at-start .args in
-    room-filled sha256 (a .front .now) (a .back .now) _ _ (length (a .front .now)) (64 - length (a .front .now)) refl (omega arith) (omega arith) (at-copy .copy .ensures) (c .before .copy2 .ensures)
+    let f = at-start .args .front .now in
+    let zeros : at-copy .copy .last .0 ≡ f ++ drop (length f) (replicate 64 0) = at-copy .copy .ensures in
+    room-filled sha256 f (at-start .args .back .now) _ _ (length f) (64 - length f) refl (omega arith) (omega arith) zeros (c .before .copy2 .ensures)
 
 pub room-spec : {M : Type 1} → statement M
 room-spec =

@@ -8,7 +8,7 @@ use Rattle.sha256.proofs.Sha256.new.Tie as tie
 
 returns : tie.Need-returns
 unfolding initial256 roomOf
-returns c = (fed-none sha256 (omega arith) _ refl, refl)
+returns c = (fed-none sha256 (omega arith) _ refl, refl, refl)
 
 pub new-spec : {M : Type 1} → statement M
 new-spec = tie.close (tie.spec returns)

@@ -8,7 +8,7 @@ use Rattle.sha512.proofs.Sha512.new.Tie as tie
 
 returns : tie.Need-returns
 unfolding initial512 roomOf
-returns c = (fed-none sha512 (omega arith) _ refl, refl)
+returns c = (fed-none sha512 (omega arith) _ refl, refl, refl)
 
 pub new-spec : {M : Type 1} → statement M
 new-spec = tie.close (tie.spec returns)
