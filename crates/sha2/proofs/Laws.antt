@@ -102,6 +102,10 @@ module _ (p : Params) (pos : 0 < p .block) where
   unfolding run chain
   run-short h m s = rw div-eq-of-lt
 
+  -- nothing in front changes nothing
+  pub run-none : (h a m : List ℕ) → length a ≡ 0 → run p h m ≡ run p h (a ++ m)
+  run-none h a m e = rw (empty a e)
+
   run-cons : (h b a m : List ℕ) → length b ≡ p .block → ((g : List ℕ) → run p g (a ++ m) ≡ run p (run p g a) m)
       → run p h ((b ++ a) ++ m) ≡ run p (run p h (b ++ a)) m
   run-cons h b a m e f =
@@ -175,9 +179,15 @@ module _ (p : Params) (pos : 0 < p .block) where
       (subst (λ (c : List ℕ). Stands p h c (m ++ s)) (sym (whole x)) (stands-wait h w m s f)))
 
   -- what a room holds
-  pub room-holds : (w : List ℕ) (n : ℕ) → length w ≡ n → take n (roomOf p w) ≡ w
+  room-holds : (w : List ℕ) (n : ℕ) → length w ≡ n → take n (roomOf p w) ≡ w
   unfolding roomOf
   room-holds w n e = take-at w _ n e
+
+  pub room-full : (w : List ℕ) → length w ≡ p .block → roomOf p w ≡ w
+  unfolding roomOf
+  room-full w e =
+      let n : p .block - length w ≡ 0 = omega arith in
+      rw n (append-nil w)
 
   waits-fed : (h : State) (s : List ℕ) → length (h .room) ≡ p .block → waits p (fed p h s) ≡ left p (waits p h ++ s)
   waits-fed h s e =

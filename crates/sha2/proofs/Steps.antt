@@ -3,7 +3,7 @@ use mathlib.Core.Path.{_≡_, refl, sym, _∙_, ap}
 use mathlib.Core.List.{List, [], _∷_, _++_, append-assoc, append-nil}
 use Prim.Native.Nat.{ℕ, zero, suc, _+_, _*_, _/_, _%_, _-_, _^_, _<_, _≤_}
 use native.Mathlib.Numerals.{add-one}
-use native.Mathlib.Nat.{mul-add, mul-one, mul-comm, zero-mul, one-mul, sub-zero, mod-self, mod-le, mod-lt, mod-eq-of-lt, add-mod-right, div-add-mod'}
+use native.Mathlib.Nat.{mul-add, mul-one, mul-comm, one-mul, mod-le, mod-lt, add-mod-right, div-add-mod'}
 use native.Mathlib.Omega.{arith}
 use lib.ListN.{length, getD, take, drop, set, replicate, length-append, length-take, length-drop, length-replicate, take-append-drop, replicate-append-replicate}
 use lib.Seq.{take-suc, take-suc-set, take-all, take-at, drop-at, drop-drop, drop-append-add, set-at, getD-take, length-take-le}
@@ -12,7 +12,7 @@ use Rattle.octets.specs.Octets.{number, bytes, pasted}
 use Rattle.octets.proofs.Laws.{part-rest, bytes-length, lent-pasted}
 use Rattle.sha2.specs.Sha2.{Params, add, σ0, σ1, words, next, schedule, round, rounds, adds, compress, run, joined, zeros, padding}
 use Rattle.sha2.specs.inner.Running.{State, left, roomOf, waits, fed, finished}
-use Rattle.sha2.proofs.Laws.{run-append, room-holds, drop-zeros, padding-eight}
+use Rattle.sha2.proofs.Laws.{run-append, room-full, drop-zeros, padding-eight}
 
 -- what stands before the end of what was written at i
 pub taken : (l x : List ℕ) (i n : ℕ) → i + length x ≡ n → n ≤ length l → take n (pasted l i x) ≡ take i l ++ x
@@ -33,13 +33,6 @@ zeroed w h z c N e f =
       append-assoc w (0x80 ∷ replicate z 0) (replicate c 0),
       replicate-append-replicate {A = ℕ} z c 0,
     )
-
--- h bytes that wait, and as many as then fill a block of N, are whole blocks: q of them
-fills : (N h : ℕ) → h < N → (q : ℕ) × (h + (N - h) % N ≡ q * N)
-fills N zero h = (0, rw (sub-zero, mod-self, zero-mul))
-fills N (suc n) h =
-    let l : N - suc n < N = omega arith in
-    (1, rw (mod-eq-of-lt l, one-mul) (omega arith))
 
 module _ (p : Params) where
   pub rounds-step : (w k : List ℕ) (t n : ℕ) (h v r : List ℕ) → k ≡ p .constants → n ≡ suc t → v ≡ rounds p w t h
@@ -136,15 +129,13 @@ module _ (p : Params) where
       lent-pasted o l b i k g (omega arith) r
       ∙ rw (d, z, take-at f (replicate k 0) i e, m) (sym (append-assoc f b (replicate (p .block - length (f ++ b)) 0)))
 
-  -- s after the bytes f, less than a block: n bytes of s fill the block, the rest follows it
-  pub absorbed : 0 < p .block → (h v r f s l : List ℕ) (i n e : ℕ) → length f ≡ i → i < p .block → n ≡ (p .block - i) % p .block → n ≤ length s → e ≡ i + n
-      → l ≡ roomOf p (f ++ take n s) → v ≡ run p h (take e l) → r ≡ run p v (take (length s - n) (drop n s)) → r ≡ run p h (f ++ s)
-  absorbed pos h v r f s l i n e ef hi en hn ee el ev er =
-      let q = fills (p .block) i hi in
-      let c : length (f ++ take n s) ≡ e = simp (length-append, length-take) (omega arith) in
-      let b : length (f ++ take n s) ≡ q .0 * p .block = c ∙ ee ∙ ap (λ (x : ℕ). i + x) en ∙ q .1 in
-      rw (er, ev, el, room-holds p pos (f ++ take n s) e c, part-rest n s)
-      (sym (run-append p pos (q .0) h (f ++ take n s) (drop n s) b)
+  -- s after the bytes f: n bytes of s fill the block l, the rest follows it
+  pub absorbed : 0 < p .block → (h v r f s l : List ℕ) (n : ℕ) → length f + n ≡ p .block → n ≤ length s
+      → l ≡ roomOf p (f ++ take n s) → v ≡ run p h l → r ≡ run p v (take (length s - n) (drop n s)) → r ≡ run p h (f ++ s)
+  absorbed pos h v r f s l n e hn el ev er =
+      let b : length (f ++ take n s) ≡ p .block = simp (length-append, length-take) (omega arith) in
+      rw (er, ev, el, room-full p pos (f ++ take n s) b, part-rest n s)
+      (sym (run-append p pos 1 h (f ++ take n s) (drop n s) (b ∙ sym (one-mul (p .block))))
       ∙ ap (run p h) (append-assoc f (take n s) (drop n s) ∙ ap (λ (x : List ℕ). f ++ x) (take-append-drop n s)))
 
   -- what is left of f and s, where they fill a block: the end of s

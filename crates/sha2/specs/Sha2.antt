@@ -37,15 +37,15 @@ pub record Params : Type 0 where
 
 module _ (p : Params) where
   -- 3.2: x + y, modulo 2 ^ w.
-  abbrev pub add : ℕ → ℕ → ℕ
+  abbrev pub add : (x y : ℕ) → ℕ
   add x y = (x + y) % 2 ^ p .bits
 
   -- 3.2: ROTR n x, the rotation of x to the right by n bits.
-  abbrev pub rotr : ℕ → ℕ → ℕ
+  abbrev pub rotr : (n x : ℕ) → ℕ
   rotr n x = bitOr (x / 2 ^ n) (x * 2 ^ (p .bits - n) % 2 ^ p .bits)
 
   -- 3.2: SHR n x, the shift of x to the right by n bits.
-  abbrev pub shr : ℕ → ℕ → ℕ
+  abbrev pub shr : (n x : ℕ) → ℕ
   shr n x = x / 2 ^ n
 
   -- 2.2.2: the complement ¬ x.
@@ -59,10 +59,10 @@ module _ (p : Params) where
   abbrev pub Maj : (x y z : ℕ) → ℕ
   Maj x y z = bitXor (bitXor (bitAnd x y) (bitAnd x z)) (bitAnd y z)
 
-  abbrev pub bigSigma : Amounts → ℕ → ℕ
+  abbrev pub bigSigma : (n : Amounts) (x : ℕ) → ℕ
   bigSigma n x = bitXor (bitXor (rotr (n .first) x) (rotr (n .second) x)) (rotr (n .third) x)
 
-  abbrev pub smallSigma : Amounts → ℕ → ℕ
+  abbrev pub smallSigma : (n : Amounts) (x : ℕ) → ℕ
   smallSigma n x = bitXor (bitXor (rotr (n .first) x) (rotr (n .second) x)) (shr (n .third) x)
 
   abbrev pub Σ0 : ℕ → ℕ

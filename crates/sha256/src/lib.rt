@@ -238,10 +238,12 @@ fn absorb(h: Words256, front: &[u8], s: &[u8]) -> Words256
     if have + s.len() < 64 {
         return h;
     }
-    let from = (64 - have) % 64;
+    if have == 0 {
+        return blocks(h, s);
+    }
+    let from = 64 - have;
     let first = room(front, &s[..from]);
-    let filled = have + from;
-    let v = blocks(h, &first[..filled]);
+    let v = blocks(h, &first);
     blocks(v, &s[from..])
 }
 

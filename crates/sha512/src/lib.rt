@@ -238,10 +238,12 @@ fn absorb(h: Words512, front: &[u8], s: &[u8]) -> Words512
     if have + s.len() < 128 {
         return h;
     }
-    let from = (128 - have) % 128;
+    if have == 0 {
+        return blocks(h, s);
+    }
+    let from = 128 - have;
     let first = room(front, &s[..from]);
-    let filled = have + from;
-    let v = blocks(h, &first[..filled]);
+    let v = blocks(h, &first);
     blocks(v, &s[from..])
 }
 
