@@ -10,7 +10,7 @@ use lib.Seq.{take-suc, take-suc-set, take-all, take-at, drop-at, drop-drop, drop
 use borrow.Rule.Slice.PartMut.{putMid}
 use Rattle.octets.specs.Octets.{number, bytes, pasted}
 use Rattle.octets.proofs.Laws.{part-rest, bytes-length, lent-pasted}
-use Rattle.sha2.specs.Sha2.{Params, add, σ0, σ1, words, next, schedule, round, rounds, adds, compress, run, joined, zeros, padding}
+use Rattle.sha2.specs.Sha2.{Params, add, Ch, Maj, Σ0, Σ1, σ0, σ1, T1, T2, words, next, schedule, round, rounds, adds, compress, run, joined, zeros, padding}
 use Rattle.sha2.specs.inner.Running.{State, left, roomOf, waits, fed, finished}
 use Rattle.sha2.proofs.Laws.{run-append, room-full, drop-zeros, padding-eight}
 
@@ -34,7 +34,20 @@ zeroed w h z c N e f =
       replicate-append-replicate {A = ℕ} z c 0,
     )
 
+-- two hash values of equal words
+pub eight : {a b c d e f g h a′ b′ c′ d′ e′ f′ g′ h′ : ℕ} → a ≡ a′ → b ≡ b′ → c ≡ c′ → d ≡ d′ → e ≡ e′ → f ≡ f′ → g ≡ g′ → h ≡ h′
+    → a ∷ b ∷ c ∷ d ∷ e ∷ f ∷ g ∷ h ∷ [] ≡ a′ ∷ b′ ∷ c′ ∷ d′ ∷ e′ ∷ f′ ∷ g′ ∷ h′ ∷ []
+eight i j k l m n o q = rw (i, j, k, l, m, n, o, q)
+
 module _ (p : Params) where
+  -- one round, sum by sum
+  pub round-done : (v : List ℕ) (k w s1 x1 x2 x3 x4 t1 s0 x5 t2 e a : ℕ) → s1 ≡ Σ1 p (getD v 4 0) → x1 ≡ add p (getD v 7 0) s1 → x2 ≡ Ch p (getD v 4 0) (getD v 5 0) (getD v 6 0)
+      → x3 ≡ add p x1 x2 → x4 ≡ add p x3 k → t1 ≡ add p x4 w → s0 ≡ Σ0 p (getD v 0 0) → x5 ≡ Maj p (getD v 0 0) (getD v 1 0) (getD v 2 0) → t2 ≡ add p s0 x5
+      → e ≡ add p (getD v 3 0) t1 → a ≡ add p t1 t2
+      → a ∷ getD v 0 0 ∷ getD v 1 0 ∷ getD v 2 0 ∷ e ∷ getD v 4 0 ∷ getD v 5 0 ∷ getD v 6 0 ∷ [] ≡ round p v k w
+  unfolding round T1 T2
+  round-done v k w s1 x1 x2 x3 x4 t1 s0 x5 t2 e a e1 e2 e3 e4 e5 e6 e7 e8 e9 e10 e11 = rw (e11, e10, e9, e8, e7, e6, e5, e4, e3, e2, e1)
+
   pub rounds-step : (w k : List ℕ) (t n : ℕ) (h v r : List ℕ) → k ≡ p .constants → n ≡ suc t → v ≡ rounds p w t h
       → r ≡ round p v (getD k t 0) (getD w t 0) → r ≡ rounds p w n h
   unfolding rounds
