@@ -7,15 +7,15 @@ use hmac::hmac_sha512;
 use running_hash::sha256_of;
 use running_hash::sha512_of;
 use sha2::MAXIMUM;
-use sha2::Sha256;
-use sha2::Sha512;
+use sha256::Sha256;
+use sha512::Sha512;
 use std::num::wrapping_add_u8;
 use std::num::wrapping_add_u64;
 ghost use mathlib.Core.Path.{_≡_};
 ghost use Prim.Native.Nat.{_+_, _*_, _≤_};
 ghost use lib.ListN.{length};
-ghost use Rattle.hmac.specs.Running.{largest};
-ghost use Rattle.sha2.specs.Running.{maximum};
+ghost use Rattle.hmac.specs.Limits.{largest};
+ghost use Rattle.sha2.specs.Limits.{maximum};
 
 pub struct Tally {
     pub matches: u64,

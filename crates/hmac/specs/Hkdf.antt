@@ -11,15 +11,15 @@ module _ (p : Params) where
   hashLen = 8 * p .size
 
   -- Section 2.2. No salt is the empty salt: HMAC extends both to the same block of zeros.
-  unfoldable pub extract : List ℕ → List ℕ → List ℕ
+  unfoldable pub extract : (salt ikm : List ℕ) → List ℕ
   extract salt ikm = hmac p salt ikm
 
   -- Section 2.3: the block T(n), and T = T(1) | .. | T(n).
-  unfoldable pub T : List ℕ → List ℕ → ℕ → List ℕ
+  unfoldable pub T : (prk info : List ℕ) (n : ℕ) → List ℕ
   T prk info zero = []
   T prk info (suc n) = hmac p prk (T prk info n ++ (info ++ (suc n ∷ [])))
 
-  unfoldable pub blocks : List ℕ → List ℕ → ℕ → List ℕ
+  unfoldable pub blocks : (prk info : List ℕ) (n : ℕ) → List ℕ
   blocks prk info zero = []
   blocks prk info (suc n) = blocks prk info n ++ T prk info (suc n)
 
@@ -28,5 +28,5 @@ module _ (p : Params) where
   limit = 255 * hashLen
 
   -- OKM, the first l bytes of T, of which there are N = ceil(l / HashLen) blocks. l is at most the limit.
-  unfoldable pub expand : List ℕ → List ℕ → ℕ → List ℕ
+  unfoldable pub expand : (prk info : List ℕ) (l : ℕ) → List ℕ
   expand prk info l = take l (blocks prk info ((l + (hashLen - 1)) / hashLen))

@@ -22,9 +22,9 @@ module _ (p : Params) where
   extended k = shortened k ++ replicate (p .block - length (shortened k)) 0
 
   -- Steps 2 and 5: the key XOR a pad, which is one byte B times.
-  unfoldable pub masked : ℕ → List ℕ → List ℕ
+  unfoldable pub masked : (pad : ℕ) (k : List ℕ) → List ℕ
   masked pad k = xors (extended k) (replicate (p .block) pad)
 
   -- H(K XOR opad, H(K XOR ipad, text))
-  unfoldable pub hmac : List ℕ → List ℕ → List ℕ
+  unfoldable pub hmac : (k text : List ℕ) → List ℕ
   hmac k text = hash p (masked opad k ++ hash p (masked ipad k ++ text))

@@ -1,3 +1,4 @@
 pub mod Hmac
 pub mod Hkdf
-pub mod Running
+pub mod Limits
+pub mod inner

@@ -1,15 +1,15 @@
 // HMAC, RFC 2104, and HKDF, RFC 5869, with SHA-256 and with SHA-512.
-mod sha256;
-mod sha512;
+mod with_sha256;
+mod with_sha512;
 
-pub use sha256::HmacSha256;
-pub use sha256::hkdf_expand_sha256;
-pub use sha256::hkdf_extract_sha256;
-pub use sha256::hmac_sha256;
-pub use sha512::HmacSha512;
-pub use sha512::hkdf_expand_sha512;
-pub use sha512::hkdf_extract_sha512;
-pub use sha512::hmac_sha512;
+pub use with_sha256::HmacSha256;
+pub use with_sha256::hkdf_expand_sha256;
+pub use with_sha256::hkdf_extract_sha256;
+pub use with_sha256::hmac_sha256;
+pub use with_sha512::HmacSha512;
+pub use with_sha512::hkdf_expand_sha512;
+pub use with_sha512::hkdf_extract_sha512;
+pub use with_sha512::hmac_sha512;
 ghost use mathlib.Core.Path.{_≡_};
 ghost use Prim.Native.Nat.{min};
 

@@ -6,10 +6,13 @@ use native.Mathlib.Omega.{arith}
 use lib.ListN.{length}
 use Rattle.sha2.specs.Sha2.{Params, hash}
 use Rattle.sha2.specs.Sizes.{sha256, sha512}
-use Rattle.sha2.specs.Running.{maximum, Fed256, Fed512}
-use Rattle.sha2.specs.declared.sha256.Sha256.{Sha256}
-use Rattle.sha2.specs.declared.sha512.Sha512.{Sha512}
-use Rattle.running_hash.specs.Lent.{FedWith, Finished, digestOf}
+use Rattle.sha2.specs.Limits.{maximum}
+use Rattle.sha2.specs.inner.Running.{State, Fed, fresh, fed, finished}
+use Rattle.sha256.specs.inner.State.{state256}
+use Rattle.sha512.specs.inner.State.{state512}
+use Rattle.sha256.specs.declared.Sha256.{Sha256}
+use Rattle.sha512.specs.declared.Sha512.{Sha512}
+use Rattle.running_hash.specs.inner.Lent.{FedWith, Finished, digestOf}
 
 -- Of the functions by value: a state may be fed some bytes, and what it then is; it may be finished, and its digest; it is new.
 -- Of those on a lent state: what feeding and finishing make of it. The first give the second.
@@ -37,19 +40,19 @@ Within a b = length a + length b ≤ maximum
 abbrev pub Result : Params → ℕ → List ℕ → List ℕ → List ℕ → Type 0
 Result p n a b d = (d ≡ digestOf p a b) × (length d ≡ n)
 
--- a state with a length, and the messages that it has been fed
-module _ (S : Type 0) (len : S → ℕ) (Has : S → List ℕ → Type 0) (p : Params) (n : ℕ) where
+-- a state type as a running hash, with digests of n bytes
+module _ (S : Type 0) (state : S → State) (p : Params) (n : ℕ) where
   abbrev relations : Relations S
   relations = record {
-    May = λ h l. len h + length l ≤ maximum;
-    Fed = λ h l r. ((m : List ℕ) → Has h m → Has r (m ++ l)) × (len r ≡ len h + length l);
-    Ends = λ h. len h ≤ maximum;
-    Digest = λ h d. ((m : List ℕ) → Has h m → d ≡ hash p m) × (length d ≡ n);
-    Fresh = λ r. Has r [] × (len r ≡ 0);
-    FedWith = FedWith S len Has;
-    Finished = Finished S len Has p n;
-    feeds = λ h l r e. (e .0, e .1);
-    finishes = λ h d r e f. (e .0, e .1, f .0, f .1);
+    May = λ h l. state h .len + length l ≤ maximum;
+    Fed = λ h l r. ((m : List ℕ) → Fed p (state h) m → Fed p (state r) (m ++ l)) × (state r .len ≡ state h .len + length l) × (state r ≡ fed p (state h) l);
+    Ends = λ h. state h .len ≤ maximum;
+    Digest = λ h d. ((m : List ℕ) → Fed p (state h) m → d ≡ hash p m) × (length d ≡ n) × (d ≡ finished p (state h));
+    Fresh = λ r. Fed p (state r) [] × (state r .len ≡ 0) × (state r ≡ fresh p);
+    FedWith = FedWith S state p;
+    Finished = Finished S state p n;
+    feeds = λ h l r e. (e .0, e .1, e .2);
+    finishes = λ h d r e f. (e .0, e .1, e .2, f .0, f .1, f .2);
   }
 
   joins : Joins S relations Within (Result p n)
@@ -61,13 +64,13 @@ module _ (S : Type 0) (len : S → ℕ) (Has : S → List ℕ → Type 0) (p : P
   }
 
 abbrev pub states256 : Relations Sha256
-states256 = relations Sha256 (λ s. s .len) Fed256 sha256 32
+states256 = relations Sha256 state256 sha256 32
 
 pub joins256 : Joins Sha256 states256 Within (Result sha256 32)
-joins256 = joins Sha256 (λ s. s .len) Fed256 sha256 32
+joins256 = joins Sha256 state256 sha256 32
 
 abbrev pub states512 : Relations Sha512
-states512 = relations Sha512 (λ s. s .len) Fed512 sha512 64
+states512 = relations Sha512 state512 sha512 64
 
 pub joins512 : Joins Sha512 states512 Within (Result sha512 64)
-joins512 = joins Sha512 (λ s. s .len) Fed512 sha512 64
+joins512 = joins Sha512 state512 sha512 64

@@ -1,13 +1,13 @@
-// Hash states behind `&mut`: thin functions over those of sha2, and above them the digest of two pieces, for callers without
+// Hash states behind `&mut`: thin functions over those of sha256 and sha512, and above them the digest of two pieces, for callers without
 // a state of their own.
-use sha2::Sha256;
-use sha2::Sha512;
+use sha256::Sha256;
+use sha512::Sha512;
 ghost use mathlib.Core.Path.{_≡_};
 ghost use Prim.Native.Nat.{_+_, _≤_};
 ghost use lib.ListN.{length};
 ghost use Rattle.sha2.specs.Sizes.{sha256, sha512};
-ghost use Rattle.sha2.specs.Running.{maximum};
-ghost use Rattle.running_hash.specs.Lent.{FedWith256, Finished256, FedWith512, Finished512, digestOf};
+ghost use Rattle.sha2.specs.Limits.{maximum};
+ghost use Rattle.running_hash.specs.inner.Lent.{FedWith256, Finished256, FedWith512, Finished512, digestOf};
 
 // The state has been fed s after what was fed before.
 pub fn feed_sha256(state: &mut Sha256, s: &[u8])

@@ -10,18 +10,18 @@ use hmac::hkdf_extract_sha256;
 use hmac::hkdf_extract_sha512;
 use octets::copy;
 use sha2::MAXIMUM;
-use sha2::Sha256;
-use sha2::Sha512;
+use sha256::Sha256;
+use sha512::Sha512;
 ghost use mathlib.Core.Path.{_≡_};
 ghost use mathlib.Core.List.{[], _++_};
 ghost use Prim.Native.Nat.{_≤_};
 ghost use lib.ListN.{length, drop};
 ghost use Rattle.sha2.specs.Sha2.{hash};
 ghost use Rattle.sha2.specs.Sizes.{sha256, sha512};
-ghost use Rattle.sha2.specs.Running.{maximum};
+ghost use Rattle.sha2.specs.Limits.{maximum};
 ghost use Rattle.hmac.specs.Hmac.{hmac};
 ghost use Rattle.hmac.specs.Hkdf.{extract, expand, limit};
-ghost use Rattle.hmac.specs.Running.{largest};
+ghost use Rattle.hmac.specs.Limits.{largest};
 
 fn sha256_pieces(message: &[u8], first: usize, second: usize) -> [u8; 32]
     requires { ⌜ (first ≤ second) × (second ≤ length (now message)) × (length (now message) ≤ maximum) ⌝ }

@@ -1,18 +1,18 @@
 -- Laws of SHA-2 over its parameters: blocks that are chained, a message fed in pieces, padding.
 -- Assumes nothing.
-use mathlib.Core.Path.{_≡_, refl, sym, _∙_, ap}
+use mathlib.Core.Path.{_≡_, refl, sym, _∙_, ap, subst}
 use mathlib.Core.List.{List, [], _∷_, _++_, append-assoc, append-nil}
 use Prim.Native.Nat.{ℕ, zero, suc, _+_, _*_, _/_, _%_, _^_, _-_, _<_, _≤_}
-use native.Mathlib.Nat.{suc-mul, zero-mul, mul-zero, mul-suc, add-comm, add-div-left, div-eq-of-lt, zero-div}
+use native.Mathlib.Nat.{suc-mul, zero-mul, mul-zero, mul-suc, add-comm, add-div-left, div-eq-of-lt, div-mul-le-self, zero-div, zero-mod, mod-lt, mod-add-mod, mod-eq-sub-div-mul}
 use native.Mathlib.Numerals.{add-one}
 use native.Mathlib.Omega.{arith}
-use lib.ListN.{length, take, drop, replicate, length-append, length-take, length-drop, take-append-drop, replicate-append-replicate}
-use lib.Seq.{take-at, take-add, drop-at, drop-drop}
+use lib.ListN.{length, take, drop, replicate, length-append, length-take, length-drop, length-replicate, take-append-drop, replicate-append-replicate}
+use lib.Seq.{take-at, take-add, drop-at, drop-drop, length-take-le}
 use Rattle.octets.specs.Octets.{Octets, bytes}
 use Rattle.octets.proofs.Laws.{bytes-add, bytes-length, bytes-octets, octets-append, part-rest}
 use Rattle.sha2.specs.Sha2.{Params, adds, compress, chain, run, joined, padding, zeros, hash}
 use Rattle.sha2.specs.Sizes.{sha256, sha512, initial256, initial512}
-use Rattle.sha2.specs.Running.{Stands}
+use Rattle.sha2.specs.inner.Running.{Stands, State, Fed, left, roomOf, waits, fresh, fed, finished}
 
 -- a message cut at a and at b, as slices cut it, is whole again
 pub pieces : (m : List ℕ) (a b : ℕ) → a ≤ b → b ≤ length m
@@ -102,6 +102,10 @@ module _ (p : Params) (pos : 0 < p .block) where
   unfolding run chain
   run-short h m s = rw div-eq-of-lt
 
+  -- nothing in front changes nothing
+  pub run-none : (h a m : List ℕ) → length a ≡ 0 → run p h m ≡ run p h (a ++ m)
+  run-none h a m e = rw (empty a e)
+
   run-cons : (h b a m : List ℕ) → length b ≡ p .block → ((g : List ℕ) → run p g (a ++ m) ≡ run p (run p g a) m)
       → run p h ((b ++ a) ++ m) ≡ run p (run p h (b ++ a)) m
   run-cons h b a m e f =
@@ -142,7 +146,82 @@ module _ (p : Params) (pos : 0 < p .block) where
   unfolding Stands hash
   stands-end h w m f = ap (joined p) (sym (f (padding p (length m))))
 
+  -- ---- the running hash
+
+  -- the whole blocks of a message, and what is left
+  whole : (m : List ℕ) → take (length m / p .block * p .block) m ++ left p m ≡ m
+  unfolding left
+  whole m = take-append-drop (length m / p .block * p .block) m
+
+  left-length : (m : List ℕ) → length (left p m) ≡ length m % p .block
+  unfolding left
+  left-length m = length-drop (length m / p .block * p .block) m ∙ sym (mod-eq-sub-div-mul (length m) (p .block))
+
+  pub left-short : (m : List ℕ) → length m < p .block → left p m ≡ m
+  unfolding left
+  left-short m h = rw (div-eq-of-lt h, zero-mul)
+
+  whole-length : (m : List ℕ) → length (take (length m / p .block * p .block) m) ≡ length m / p .block * p .block
+  whole-length m = length-take-le _ m (div-mul-le-self (length m) (p .block))
+
+  run-whole : (h m : List ℕ) → run p h (take (length m / p .block * p .block) m) ≡ run p h m
+  run-whole h m =
+      let a : List ℕ = take (length m / p .block * p .block) m in
+      sym (run-short (run p h a) (left p m) (rw (left-length m) (mod-lt (length m) pos)))
+      ∙ sym (run-append (length m / p .block) h a (left p m) (whole-length m))
+      ∙ ap (run p h) (whole m)
+
+  stands-fed : (h w m s : List ℕ) → Stands p h w m → Stands p (run p h (w ++ s)) (left p (w ++ s)) (m ++ s)
+  stands-fed h w m s f =
+      let x : List ℕ = w ++ s in
+      rw (run-whole h x) at
+      (stands-run (length x / p .block) h (take (length x / p .block * p .block) x) (left p x) (m ++ s) (whole-length x)
+      (subst (λ (c : List ℕ). Stands p h c (m ++ s)) (sym (whole x)) (stands-wait h w m s f)))
+
+  -- what a room holds
+  room-holds : (w : List ℕ) (n : ℕ) → length w ≡ n → take n (roomOf p w) ≡ w
+  unfolding roomOf
+  room-holds w n e = take-at w _ n e
+
+  pub room-full : (w : List ℕ) → length w ≡ p .block → roomOf p w ≡ w
+  unfolding roomOf
+  room-full w e =
+      let n : p .block - length w ≡ 0 = omega arith in
+      rw n (append-nil w)
+
+  waits-fed : (h : State) (s : List ℕ) → length (h .room) ≡ p .block → waits p (fed p h s) ≡ left p (waits p h ++ s)
+  waits-fed h s e =
+      let m : h .len % p .block < p .block = mod-lt (h .len) pos in
+      let l : length (waits p h) ≡ h .len % p .block = length-take-le (h .len % p .block) (h .room) (omega arith) in
+      room-holds (left p (waits p h ++ s)) ((h .len + length s) % p .block)
+      (left-length (waits p h ++ s) ∙ rw (length-append, l) (mod-add-mod (h .len) (p .block) (length s)))
+
+  -- A new state has been fed nothing. One that was fed m, and is then fed s, has been fed m and s. Its digest is that of
+  -- what it was fed.
+  pub fed-none : (r : State) → r ≡ fresh p → Fed p r []
+  fed-none r e = rw e (record { total = refl; stands = rw (zero-mod (p .block)) stands-new })
+
+  pub fed-more : (h r : State) (m s : List ℕ) → length (h .room) ≡ p .block → r ≡ fed p h s → Fed p h m → Fed p r (m ++ s)
+  fed-more h r m s l e f =
+      rw e
+      (record {
+        total = simp length-append (omega arith);
+        stands = rw (waits-fed h s l) (stands-fed (h .value) (waits p h) m s (f .stands));
+      })
+
+  pub fed-end : (h : State) (d m : List ℕ) → d ≡ finished p h → Fed p h m → d ≡ hash p m
+  fed-end h d m e f =
+      e ∙ ap (λ (n : ℕ). joined p (run p (h .value) (waits p h ++ padding p n))) (f .total) ∙ stands-end (h .value) (waits p h) m (f .stands)
+
 -- ---- padding
+
+-- zeros after the first n
+pub drop-zeros : (n N : ℕ) → n ≤ N → drop {A = ℕ} n (replicate N 0) ≡ replicate (N - n) 0
+drop-zeros n N h =
+    let e : N ≡ n + (N - n) = omega arith in
+    ap (λ (k : ℕ). drop {A = ℕ} n (replicate k 0)) e
+    ∙ ap (drop {A = ℕ} n) (sym (replicate-append-replicate {A = ℕ} n (N - n) 0))
+    ∙ drop-at {A = ℕ} (replicate n 0) (replicate (N - n) 0) n (length-replicate n 0)
 
 bytes-none : (k : ℕ) → bytes k 0 ≡ replicate k 0
 unfolding bytes

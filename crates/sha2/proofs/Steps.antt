@@ -1,18 +1,18 @@
 -- What the loops and the straight runs of code come to, over the parameters. Assumes nothing.
-use mathlib.Core.Path.{_≡_, refl, sym, _∙_, ap, subst}
+use mathlib.Core.Path.{_≡_, refl, sym, _∙_, ap}
 use mathlib.Core.List.{List, [], _∷_, _++_, append-assoc, append-nil}
 use Prim.Native.Nat.{ℕ, zero, suc, _+_, _*_, _/_, _%_, _-_, _^_, _<_, _≤_}
 use native.Mathlib.Numerals.{add-one}
-use native.Mathlib.Nat.{mul-add, mul-one, mul-comm, add-mul, zero-mul, one-mul, sub-zero, mod-self, mod-le, mod-lt, mod-eq-of-lt, mod-eq-sub-div-mul, mul-add-mod-self-right, mul-div-cancel, div-mul-le-self, div-add-mod'}
+use native.Mathlib.Nat.{mul-add, mul-one, mul-comm, one-mul, mod-le, mod-lt, add-mod-right, div-add-mod'}
 use native.Mathlib.Omega.{arith}
 use lib.ListN.{length, getD, take, drop, set, replicate, length-append, length-take, length-drop, length-replicate, take-append-drop, replicate-append-replicate}
-use lib.Seq.{take-suc, take-suc-set, take-all, take-at, drop-at, drop-drop, set-at, getD-take, length-take-le}
+use lib.Seq.{take-suc, take-suc-set, take-all, take-at, drop-at, drop-drop, drop-append-add, set-at, getD-take, length-take-le}
 use borrow.Rule.Slice.PartMut.{putMid}
 use Rattle.octets.specs.Octets.{number, bytes, pasted}
 use Rattle.octets.proofs.Laws.{part-rest, bytes-length, lent-pasted}
-use Rattle.sha2.specs.Sha2.{Params, add, σ0, σ1, words, next, schedule, round, rounds, adds, compress, run, joined, zeros, padding}
-use Rattle.sha2.specs.Running.{Stands}
-use Rattle.sha2.proofs.Laws.{stands-wait, stands-run, padding-eight}
+use Rattle.sha2.specs.Sha2.{Params, add, Ch, Maj, Σ0, Σ1, σ0, σ1, T1, T2, words, next, schedule, round, rounds, adds, compress, run, joined, zeros, padding}
+use Rattle.sha2.specs.inner.Running.{State, left, roomOf, waits, fed, finished}
+use Rattle.sha2.proofs.Laws.{run-append, room-full, drop-zeros, padding-eight}
 
 -- what stands before the end of what was written at i
 pub taken : (l x : List ℕ) (i n : ℕ) → i + length x ≡ n → n ≤ length l → take n (pasted l i x) ≡ take i l ++ x
@@ -20,11 +20,6 @@ unfolding pasted
 taken l x i n e h =
     rw (← append-assoc (take i l) x (drop (i + length x) l))
     (take-at (take i l ++ x) (drop (i + length x) l) n (simp (length-append, length-take) (omega arith)))
-
--- what a slice l holds to n, once s was written to its part of k elements at i
-pub filled : (l o s : List ℕ) (i k n : ℕ) → i + k ≡ length l → length s ≤ k → n ≡ i + length s → o ≡ s ++ drop (length s) (take k (drop i l))
-    → take n (putMid i k l o) ≡ take i l ++ s
-filled l o s i k n h f e q = rw (lent-pasted l o s i k f (omega arith) q, taken l s i n (omega arith) (omega arith))
 
 zeroed : (w : List ℕ) (h z c N : ℕ) → length w ≡ h → h + (1 + z) + c ≡ N
     → set (w ++ drop (length w) (replicate N 0)) h 0x80 ≡ (w ++ (0x80 ∷ replicate z 0)) ++ replicate c 0
@@ -39,35 +34,28 @@ zeroed w h z c N e f =
       replicate-append-replicate {A = ℕ} z c 0,
     )
 
--- h bytes that wait, and as many as then fill a block of N, are whole blocks: q of them
-fills : (N h : ℕ) → h < N → (q : ℕ) × (h + (N - h) % N ≡ q * N)
-fills N zero h = (0, rw (sub-zero, mod-self, zero-mul))
-fills N (suc n) h =
-    let l : N - suc n < N = omega arith in
-    (1, rw (mod-eq-of-lt l, one-mul) (omega arith))
-
--- Where L bytes have been fed and S come, n of these fill a block of N, and whole blocks follow up to e.
-pub cut : (N L S n e : ℕ) → 0 < N → N ≤ L % N + S → n ≡ (N - L % N) % N → e ≡ n + (S - n) / N * N
-    → (n ≤ e) × (e ≤ S) × ((L + S) % N ≡ S - e) × (L % N + n ≡ (L % N + n) / N * N) × (e - n ≡ (S - n) / N * N)
-cut N L S n e pos h en ee =
-    let m : L % N < N = mod-lt L pos in
-    let f = fills N (L % N) m in
-    let q : L % N + n ≡ f .0 * N = rw en (f .1) in
-    let s : n ≤ S = omega (arith, mod-le (N - L % N) N) in
-    let d : (S - n) / N * N ≤ S - n = div-mul-le-self (S - n) N in
-    let x : L + S ≡ (L / N + f .0) * N + (S - n) = rw add-mul (omega (arith, div-add-mod' L N)) in (
-      omega arith,
-      omega arith,
-      rw (x, mul-add-mod-self-right (L / N + f .0) N (S - n), mod-eq-sub-div-mul (S - n) N) (omega arith),
-      rw (q, mul-div-cancel (f .0) pos),
-      omega arith,
-    )
+-- two hash values of equal words
+pub eight : {a b c d e f g h a′ b′ c′ d′ e′ f′ g′ h′ : ℕ} → a ≡ a′ → b ≡ b′ → c ≡ c′ → d ≡ d′ → e ≡ e′ → f ≡ f′ → g ≡ g′ → h ≡ h′
+    → a ∷ b ∷ c ∷ d ∷ e ∷ f ∷ g ∷ h ∷ [] ≡ a′ ∷ b′ ∷ c′ ∷ d′ ∷ e′ ∷ f′ ∷ g′ ∷ h′ ∷ []
+eight i j k l m n o q = rw (i, j, k, l, m, n, o, q)
 
 module _ (p : Params) where
+  -- one round, sum by sum
+  pub round-done : (v : List ℕ) (k w s1 x1 x2 x3 x4 t1 s0 x5 t2 e a : ℕ) → s1 ≡ Σ1 p (getD v 4 0) → x1 ≡ add p (getD v 7 0) s1 → x2 ≡ Ch p (getD v 4 0) (getD v 5 0) (getD v 6 0)
+      → x3 ≡ add p x1 x2 → x4 ≡ add p x3 k → t1 ≡ add p x4 w → s0 ≡ Σ0 p (getD v 0 0) → x5 ≡ Maj p (getD v 0 0) (getD v 1 0) (getD v 2 0) → t2 ≡ add p s0 x5
+      → e ≡ add p (getD v 3 0) t1 → a ≡ add p t1 t2
+      → a ∷ getD v 0 0 ∷ getD v 1 0 ∷ getD v 2 0 ∷ e ∷ getD v 4 0 ∷ getD v 5 0 ∷ getD v 6 0 ∷ [] ≡ round p v k w
+  unfolding round T1 T2
+  round-done v k w s1 x1 x2 x3 x4 t1 s0 x5 t2 e a e1 e2 e3 e4 e5 e6 e7 e8 e9 e10 e11 = rw (e11, e10, e9, e8, e7, e6, e5, e4, e3, e2, e1)
+
   pub rounds-step : (w k : List ℕ) (t n : ℕ) (h v r : List ℕ) → k ≡ p .constants → n ≡ suc t → v ≡ rounds p w t h
       → r ≡ round p v (getD k t 0) (getD w t 0) → r ≡ rounds p w n h
   unfolding rounds
   rounds-step w k t n h v r e i f g = rw (i, g, f, e)
+
+  -- the same rounds, counted in one step
+  pub rounds-at : (w h v : List ℕ) (t a b n : ℕ) → a + b ≡ n → v ≡ rounds p w (t + a + b) h → v ≡ rounds p w (t + n) h
+  rounds-at w h v t a b n e f = let q : t + a + b ≡ t + n = omega arith in rw q at f
 
   pub words-step : (w b : List ℕ) (i v : ℕ) → i < length w → take i w ≡ words p i b → v ≡ number (p .size) (take (length b - p .size * i) (drop (p .size * i) b))
       → take (i + 1) (set w i v) ≡ words p (i + 1) b
@@ -138,34 +126,48 @@ module _ (p : Params) where
 
   -- ---- the running hash
 
-  -- a piece s that does not fill a block
-  pub fed-short : 0 < p .block → (v l o m s : List ℕ) (i n t : ℕ) → i + n ≡ length l → length s ≤ n → t ≡ i + length s
-      → o ≡ s ++ drop (length s) (take n (drop i l)) → Stands p v (take i l) m → Stands p v (take t (putMid i n l o)) (m ++ s)
-  fed-short pos v l o m s i n t h k e f g =
-      rw (filled l o s i n t h k e f) (stands-wait p pos v (take i l) m s g)
+  -- a room that f was written to, and b behind it
+  pub room-filled : (f b o l : List ℕ) (i k : ℕ) → length f ≡ i → i + k ≡ p .block → length b ≤ k
+      → o ≡ f ++ drop (length f) (replicate (p .block) 0)
+      → l ≡ b ++ drop (length b) (take k (drop i o))
+      → putMid i k o l ≡ roomOf p (f ++ b)
+  unfolding pasted roomOf
+  room-filled f b o l i k e h g q r =
+      let a : p .block - length f ≡ k = omega arith in
+      let z : o ≡ f ++ replicate k 0 = rw (q, drop-zeros (length f) (p .block) (omega arith), a) in
+      let d : drop (i + length b) o ≡ replicate (k - length b) 0 =
+      sym (drop-drop (length b) i o) ∙ ap (drop (length b)) (ap (drop i) z ∙ drop-at f (replicate k 0) i e) ∙ drop-zeros (length b) k g in
+      let n : length o ≡ p .block = rw z (simp (length-append, length-replicate) (omega arith)) in
+      let m : k - length b ≡ p .block - length (f ++ b) = simp length-append (omega arith) in
+      lent-pasted o l b i k g (omega arith) r
+      ∙ rw (d, z, take-at f (replicate k 0) i e, m) (sym (append-assoc f b (replicate (p .block - length (f ++ b)) 0)))
 
-  -- a piece s that to a fills a block, and to b is whole blocks
-  pub fed-blocks : 0 < p .block → (v v1 v2 w l o m s : List ℕ) (a b f t i j : ℕ)
-      → a ≤ b → b ≤ length s → t ≡ length s - b
-      → take f l ≡ w ++ take a s → length w + a ≡ i * p .block → b - a ≡ j * p .block
-      → v1 ≡ run p v (take f l) → v2 ≡ run p v1 (take (b - a) (drop a s))
-      → o ≡ take (length s - b) (drop b s) ++ drop (length (take (length s - b) (drop b s))) l
-      → Stands p v w m → Stands p v2 (take t o) (m ++ s)
-  fed-blocks pos v v1 v2 w l o m s a b f t i j ha hb et q ei ej e1 e2 eo g =
-      let u : take (length s - b) (drop b s) ≡ drop b s = part-rest b s in
-      let x : take t o ≡ drop b s = rw (eo, u) (take-at (drop b s) _ t (simp length-drop (omega arith))) in
-      let k : a + (b - a) ≡ b = omega arith in
-      let d : drop (b - a) (drop a s) ≡ drop b s = drop-drop (b - a) a s ∙ ap (λ (n : ℕ). drop n s) k in
-      let y : s ≡ take a s ++ (take (b - a) (drop a s) ++ drop b s) = rw (← d, take-append-drop (b - a) (drop a s), take-append-drop a s) in
-      let z : w ++ s ≡ (w ++ take a s) ++ (take (b - a) (drop a s) ++ drop b s) =
-      ap (λ (c : List ℕ). w ++ c) y ∙ sym (append-assoc w (take a s) (take (b - a) (drop a s) ++ drop b s)) in
-      rw (x, e2, e1, q)
-      (stands-run p pos j (run p v (w ++ take a s)) (take (b - a) (drop a s)) (drop b s) (m ++ s) (simp (length-take, length-drop) (omega arith))
-      (stands-run p pos i v (w ++ take a s) (take (b - a) (drop a s) ++ drop b s) (m ++ s) (simp (length-append, length-take) (omega arith))
-      (subst (λ (c : List ℕ). Stands p v c (m ++ s)) z (stands-wait p pos v w m s g))))
+  -- s after the bytes f: n bytes of s fill the block l, the rest follows it
+  pub absorbed : 0 < p .block → (h v r f s l : List ℕ) (n : ℕ) → length f + n ≡ p .block → n ≤ length s
+      → l ≡ roomOf p (f ++ take n s) → v ≡ run p h l → r ≡ run p v (take (length s - n) (drop n s)) → r ≡ run p h (f ++ s)
+  absorbed pos h v r f s l n e hn el ev er =
+      let b : length (f ++ take n s) ≡ p .block = simp (length-append, length-take) (omega arith) in
+      rw (er, ev, el, room-full p pos (f ++ take n s) b, part-rest n s)
+      (sym (run-append p pos 1 h (f ++ take n s) (drop n s) (b ∙ sym (one-mul (p .block))))
+      ∙ ap (run p h) (append-assoc f (take n s) (drop n s) ∙ ap (λ (x : List ℕ). f ++ x) (take-append-drop n s)))
+
+  -- what is left of f and s, where they fill a block: the end of s
+  pub left-over : 0 < p .block → (f s : List ℕ) (k : ℕ) → length f < p .block → p .block ≤ length f + length s
+      → k ≡ length s - (length f + length s) % p .block → take (length s - k) (drop k s) ≡ left p (f ++ s)
+  unfolding left
+  left-over pos f s k h g e =
+      let n : length f + length s ≡ length f + length s - p .block + p .block = omega arith in
+      let m : (length f + length s) % p .block ≡ (length f + length s - p .block) % p .block = ap (λ (x : ℕ). x % p .block) n ∙ add-mod-right (length f + length s - p .block) (p .block) in
+      let d : (length f + length s) / p .block * p .block ≡ length f + k = omega (arith, div-add-mod' (length f + length s) (p .block), mod-le (length f + length s - p .block) (p .block)) in
+      rw (part-rest k s, length-append, d, drop-append-add f s k)
+
+  -- a state that was fed s
+  pub fed-with : (h : State) (v w s : List ℕ) → v ≡ run p (h .value) (waits p h ++ s) → w ≡ roomOf p (left p (waits p h ++ s))
+      → record { value = v; room = w; len = h .len + length s } ≡ fed p h s
+  fed-with h v w s e f = rw (e, f)
 
   -- the last blocks: what waits, a bit 1, zeros, and the length n in bits
-  pub padded-tail : (w t l : List ℕ) (n h e k c N : ℕ) → length w ≡ h → p .field ≡ k + 8 → e ≡ h + 9 + (zeros p n + k) → e - 8 + c ≡ N → 8 ≤ c → 8 * n < 256 ^ 8
+  padded-tail : (w t l : List ℕ) (n h e k c N : ℕ) → length w ≡ h → p .field ≡ k + 8 → e ≡ h + 9 + (zeros p n + k) → e - 8 + c ≡ N → 8 ≤ c → 8 * n < 256 ^ 8
       → t ≡ w ++ drop (length w) (replicate N 0)
       → l ≡ bytes 8 (n * 8) ++ drop 8 (take c (drop (e - 8) (set t h 0x80)))
       → take e (putMid (e - 8) c (set t h 0x80) l) ≡ w ++ padding p n
@@ -186,3 +188,16 @@ module _ (p : Params) where
         append-assoc w (0x80 ∷ replicate z 0) x,
         padding-eight p n k z ek refl hn,
       )
+
+  -- the digest, once the last blocks t hold what waits, a bit 1, and the length at their end e
+  pub finished-with : 0 < p .block → (h : State) (t l v d : List ℕ) (e k c N : ℕ) → length (h .room) ≡ p .block → p .field ≡ k + 8
+      → e ≡ h .len % p .block + (p .field + 1) + zeros p (h .len) → e - 8 + c ≡ N → 8 ≤ c → 8 * h .len < 256 ^ 8
+      → t ≡ waits p h ++ drop (length (waits p h)) (replicate N 0)
+      → l ≡ bytes 8 (h .len * 8) ++ drop 8 (take c (drop (e - 8) (set t (h .len % p .block) 0x80)))
+      → v ≡ run p (h .value) (take e (putMid (e - 8) c (set t (h .len % p .block) 0x80) l)) → d ≡ joined p v → d ≡ finished p h
+  finished-with pos h t l v d e k c N hr ek ee ec hc hn et el ev ed =
+      let m : h .len % p .block < p .block = mod-lt (h .len) pos in
+      let w : length (waits p h) ≡ h .len % p .block = length-take-le (h .len % p .block) (h .room) (omega arith) in
+      let x : take e (putMid (e - 8) c (set t (h .len % p .block) 0x80) l) ≡ waits p h ++ padding p (h .len) =
+      padded-tail (waits p h) t l (h .len) (h .len % p .block) e k c N w ek (omega arith) ec hc hn et el in
+      rw (ed, ev, x)

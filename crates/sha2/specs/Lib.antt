@@ -1,3 +1,4 @@
 pub mod Sha2
 pub mod Sizes
-pub mod Running
+pub mod Limits
+pub mod inner

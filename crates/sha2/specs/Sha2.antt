@@ -37,15 +37,15 @@ pub record Params : Type 0 where
 
 module _ (p : Params) where
   -- 3.2: x + y, modulo 2 ^ w.
-  abbrev pub add : ℕ → ℕ → ℕ
+  abbrev pub add : (x y : ℕ) → ℕ
   add x y = (x + y) % 2 ^ p .bits
 
   -- 3.2: ROTR n x, the rotation of x to the right by n bits.
-  abbrev pub rotr : ℕ → ℕ → ℕ
+  abbrev pub rotr : (n x : ℕ) → ℕ
   rotr n x = bitOr (x / 2 ^ n) (x * 2 ^ (p .bits - n) % 2 ^ p .bits)
 
   -- 3.2: SHR n x, the shift of x to the right by n bits.
-  abbrev pub shr : ℕ → ℕ → ℕ
+  abbrev pub shr : (n x : ℕ) → ℕ
   shr n x = x / 2 ^ n
 
   -- 2.2.2: the complement ¬ x.
@@ -53,16 +53,16 @@ module _ (p : Params) where
   complement x = 2 ^ p .bits - 1 - x
 
   -- 4.1.2, 4.1.3: the six functions.
-  abbrev pub Ch : ℕ → ℕ → ℕ → ℕ
+  abbrev pub Ch : (x y z : ℕ) → ℕ
   Ch x y z = bitXor (bitAnd x y) (bitAnd (complement x) z)
 
-  abbrev pub Maj : ℕ → ℕ → ℕ → ℕ
+  abbrev pub Maj : (x y z : ℕ) → ℕ
   Maj x y z = bitXor (bitXor (bitAnd x y) (bitAnd x z)) (bitAnd y z)
 
-  abbrev pub bigSigma : Amounts → ℕ → ℕ
+  abbrev pub bigSigma : (n : Amounts) (x : ℕ) → ℕ
   bigSigma n x = bitXor (bitXor (rotr (n .first) x) (rotr (n .second) x)) (rotr (n .third) x)
 
-  abbrev pub smallSigma : Amounts → ℕ → ℕ
+  abbrev pub smallSigma : (n : Amounts) (x : ℕ) → ℕ
   smallSigma n x = bitXor (bitXor (rotr (n .first) x) (rotr (n .second) x)) (shr (n .third) x)
 
   abbrev pub Σ0 : ℕ → ℕ
@@ -86,51 +86,51 @@ module _ (p : Params) where
   padding n = 0x80 ∷ (replicate (zeros n) 0 ++ bytes (p .field) (8 * n))
 
   -- 5.2.1, 5.2.2: the first n words of a block.
-  unfoldable pub words : ℕ → List ℕ → List ℕ
+  unfoldable pub words : (n : ℕ) (b : List ℕ) → List ℕ
   words zero b = []
   words (suc n) b = words n b ++ (number (p .size) (drop (p .size * n) b) ∷ [])
 
   -- 6.2.2, 6.4.2, step 1: the word W(t + 16) of the message schedule, whose first t + 16 words are l.
-  unfoldable pub next : List ℕ → ℕ → ℕ
+  unfoldable pub next : (l : List ℕ) (t : ℕ) → ℕ
   next l t = add (add (add (σ1 (getD l (t + 14) 0)) (getD l (t + 9) 0)) (σ0 (getD l (t + 1) 0))) (getD l t 0)
 
   -- the block's sixteen words and n more.
-  unfoldable pub schedule : ℕ → List ℕ → List ℕ
+  unfoldable pub schedule : (n : ℕ) (b : List ℕ) → List ℕ
   schedule zero b = words 16 b
   schedule (suc n) b = schedule n b ++ (next (schedule n b) n ∷ [])
 
   -- Step 3: one round, with the constant k and the word w, on the working variables a to h.
-  unfoldable pub T1 : List ℕ → ℕ → ℕ → ℕ
+  unfoldable pub T1 : (v : List ℕ) (k w : ℕ) → ℕ
   T1 v k w = add (add (add (add (getD v 7 0) (Σ1 (getD v 4 0))) (Ch (getD v 4 0) (getD v 5 0) (getD v 6 0))) k) w
 
   unfoldable pub T2 : List ℕ → ℕ
   T2 v = add (Σ0 (getD v 0 0)) (Maj (getD v 0 0) (getD v 1 0) (getD v 2 0))
 
-  unfoldable pub round : List ℕ → ℕ → ℕ → List ℕ
+  unfoldable pub round : (v : List ℕ) (k w : ℕ) → List ℕ
   round v k w =
       add (T1 v k w) (T2 v) ∷ getD v 0 0 ∷ getD v 1 0 ∷ getD v 2 0
       ∷ add (getD v 3 0) (T1 v k w) ∷ getD v 4 0 ∷ getD v 5 0 ∷ getD v 6 0 ∷ []
 
   -- the working variables after the first t rounds, with the schedule w, that start at v.
-  unfoldable pub rounds : List ℕ → ℕ → List ℕ → List ℕ
+  unfoldable pub rounds : (w : List ℕ) (t : ℕ) (v : List ℕ) → List ℕ
   rounds w zero v = v
   rounds w (suc t) v = round (rounds w t v) (getD (p .constants) t 0) (getD w t 0)
 
   -- Step 4: the hash value after the block b, from h before it.
-  abbrev pub adds : List ℕ → List ℕ → List ℕ
+  abbrev pub adds : (h v : List ℕ) → List ℕ
   adds [] v = []
   adds (x ∷ h) v = add x (getD v 0 0) ∷ adds h (drop 1 v)
 
-  unfoldable pub compress : List ℕ → List ℕ → List ℕ
+  unfoldable pub compress : (h b : List ℕ) → List ℕ
   compress h b = adds h (rounds (schedule (p .turns - 16) b) (p .turns) h)
 
   -- 6.2.2, 6.4.2: the hash value after the first n blocks of m, from h.
-  unfoldable pub chain : ℕ → List ℕ → List ℕ → List ℕ
+  unfoldable pub chain : (n : ℕ) (h m : List ℕ) → List ℕ
   chain zero h m = h
   chain (suc n) h m = chain n (compress h (take (p .block) m)) (drop (p .block) m)
 
   -- after all whole blocks of m.
-  unfoldable pub run : List ℕ → List ℕ → List ℕ
+  unfoldable pub run : (h m : List ℕ) → List ℕ
   run h m = chain (length m / p .block) h m
 
   -- the words of a hash value, one after the other.

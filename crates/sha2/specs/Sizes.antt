@@ -3,7 +3,7 @@ use mathlib.Core.List.{List, [], _∷_}
 use Prim.Native.Nat.{ℕ}
 use Rattle.sha2.specs.Sha2.{Amounts, Params}
 
-abbrev by : ℕ → ℕ → ℕ → Amounts
+abbrev by : (first second third : ℕ) → Amounts
 by a b c = record { first = a; second = b; third = c }
 
 -- 4.2.2: the constants of SHA-256.

@@ -4,7 +4,7 @@ ghost use Prim.Native.Nat.{_≤_};
 ghost use lib.ListN.{length};
 ghost use Rattle.sha2.specs.Sizes.{sha256, sha512};
 ghost use Rattle.hmac.specs.Hkdf.{limit, expand};
-ghost use Rattle.hmac.specs.Running.{largest};
+ghost use Rattle.hmac.specs.Limits.{largest};
 ghost use Rattle.suites.specs.Suites.{Nk, Nn, hashOf};
 ghost use Rattle.suites.specs.Derivation.{secret, label, labelSize, maxText, sframeKey, sframeSalt, nonce, secretKey, secretSalt};
 use crate::sizes::Aes128CtrHmacSha256Tag80;

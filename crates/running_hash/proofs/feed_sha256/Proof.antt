@@ -1,10 +1,10 @@
 use contract.Running.{givenOf, tables, tablesOf}
 use denote.Triple.Spec.{tripleOf}
 use denote.Triple.Table.{entered, cited}
-use Rattle.sha2.proofs.sha256.Sha256 as T
-use Rattle.sha2.proofs.sha256.Sha256.Laws as T′
-use Rattle.sha2.proofs.sha256.Sha256.feed.Symbol as core
-use Rattle.sha2.proofs.sha256.Sha256.feed.Met as core-thm
+use Rattle.sha256.proofs.Sha256 as T
+use Rattle.sha256.proofs.Sha256.Laws as T′
+use Rattle.sha256.proofs.Sha256.feed.Symbol as core
+use Rattle.sha256.proofs.Sha256.feed.Met as core-thm
 use Rattle.running_hash.proofs.Contracts.{CoreFeed}
 use Rattle.running_hash.proofs.Feeding.{feed-meets}
 use Rattle.running_hash.proofs.States.{states256}
@@ -19,4 +19,4 @@ feed-sha256-spec 𝓤 H 𝓜 𝓖 𝓡 =
     entered 𝓤 H (tripleOf 𝓤 H (𝓖 .A) feed.signature (feed.spec 𝓤 H (𝓖 .A) (𝓜 .mem) (𝓡 .run)))
     (tables 𝓤 H 𝓜 𝓡 code.env .C) (tables 𝓤 H 𝓜 𝓡 code.env .Λ) #feed code.function (code.unfolded 𝓤 H 𝓜 𝓡)
     (feed-meets T.the-type T′.the-laws T′.the-plain states256 core.name 𝓤 H (𝓖 .A) (givenOf 𝓤 H 𝓜 𝓖) (tablesOf 𝓤 H 𝓜 (tables 𝓤 H 𝓜 𝓡 code.env))
-    (cited 𝓤 H (CoreFeed T.the-type states256 𝓤 H (𝓖 .A)) 𝓜 𝓡 code.env core.name core.routine code.calls-sha2·sha256·Sha256·feed (core-thm.met 𝓤 H 𝓜 𝓖 𝓡)))
+    (cited 𝓤 H (CoreFeed T.the-type states256 𝓤 H (𝓖 .A)) 𝓜 𝓡 code.env core.name core.routine code.calls-sha256·Sha256·feed (core-thm.met 𝓤 H 𝓜 𝓖 𝓡)))

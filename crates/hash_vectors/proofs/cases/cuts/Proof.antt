@@ -14,8 +14,17 @@ abbrev μ-loop : tie.MeasureT-loop
 slice-aggregate-pieces : tie.Need-slice-aggregate-pieces Inv-loop μ-loop
 slice-aggregate-pieces c = simp length-take (omega arith)
 
+-- ---- points of the program, each reached from a later one
+
+abbrev to-start : tie.After-pieces-arg2 Inv-loop μ-loop → tie.Start Inv-loop μ-loop
+to-start c = c .before .before .before .before .before .before .before
+
+-- ----
+
 pieces-requires : tie.Need-pieces-requires Inv-loop μ-loop
-pieces-requires c κs = let h = c .before .before .before .before .before .before .before .pre in simp (length-take, length-drop) (omega (arith, h))
+pieces-requires c κs =
+    let at-start = to-start c in
+    let h = at-start .pre in simp (length-take, length-drop) (omega (arith, h))
 
 pub cuts-spec : {M : Type 1} → statement M
 cuts-spec =
