@@ -20,16 +20,28 @@ loop-holds : tie.Need-loop-holds Inv-loop μ-loop
 unfolding absorbBlocks
 loop-holds c = (omega arith, refl)
 
+-- ---- points of the program, each reached from a later one
+
+abbrev to-start : tie.After-loop Inv-loop μ-loop → tie.Start Inv-loop μ-loop
+to-start c = c .before .before .before .before
+
+abbrev to-loop-head : tie.After-times Inv-loop μ-loop → tie.At-loop Inv-loop μ-loop
+to-loop-head c = c .before .before .before .before
+
+-- ----
+
 loop-again : tie.Need-loop-again Inv-loop μ-loop
 loop-again c =
-    let a = c .before .before .before .before .before .before .before .args in (
+    let at-loop-head = to-loop-head c in
+    let a = at-loop-head .before .before .before .args in (
       omega arith,
-      absorb-step _ _ (a .a .now ++ a .b .now) _ _ _ _ _ (c .before .before .before .before .loop .inv .1) (c .before .before .padded .ensures) (c .before .plus .ensures) (c .times .ensures),
+      absorb-step _ _ (a .a .now ++ a .b .now) _ _ _ _ _ (at-loop-head .loop .inv .1) (c .before .before .padded .ensures) (c .before .plus .ensures) (c .times .ensures),
     )
 
 returns : tie.Need-returns Inv-loop μ-loop
 returns c =
-    let a = c .before .before .before .before .args in
+    let at-start = to-start c in
+    let a = at-start .args in
     absorb-done _ _ (a .a .now) (a .b .now) _ _ (omega arith) (c .before .loop .inv .1)
 
 pub absorb-spec : {M : Type 1} → statement M

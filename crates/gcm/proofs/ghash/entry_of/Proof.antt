@@ -7,21 +7,33 @@ use borrow.Author.Needs.{needs}
 use Rattle.gcm.proofs.ghash.entry_of.Statement.{statement}
 use Rattle.gcm.proofs.ghash.entry_of.Tie as tie
 
+-- ---- points of the program, each reached from a later one
+
+abbrev to-half2 : tie.After-scaled3 → tie.After-half2
+to-half2 c = c .before .before .before .before
+
+abbrev to-scaled3 : tie.After-plus3 → tie.After-scaled3
+to-scaled3 c = c .before .before .before .before
+
+-- ----
+
 returns : tie.Need-returns
 unfolding sum
 returns c =
-    let a = c .before .before .before .before .before .before .before .before .before .before .args in
+    let at-scaled3 = to-scaled3 c in
+    let at-half2 = to-half2 at-scaled3 in
+    let a = at-half2 .before .before .args in
     rw (
       c .plus3 .ensures,
       c .before .plus2 .ensures,
       c .before .before .plus .ensures,
       c .before .before .before .scaled4 .ensures,
-      c .before .before .before .before .scaled3 .ensures,
-      c .before .before .before .before .before .scaled2 .ensures,
-      c .before .before .before .before .before .before .scaled .ensures,
-      c .before .before .before .before .before .before .before .half3 .ensures,
-      c .before .before .before .before .before .before .before .before .half2 .ensures,
-      c .before .before .before .before .before .before .before .before .before .half .ensures,
+      at-scaled3 .scaled3 .ensures,
+      at-scaled3 .before .scaled2 .ensures,
+      at-scaled3 .before .before .scaled .ensures,
+      at-scaled3 .before .before .before .half3 .ensures,
+      at-half2 .half2 .ensures,
+      at-half2 .before .half .ensures,
     )
     (simp (xor-zero-r, div-one))
 

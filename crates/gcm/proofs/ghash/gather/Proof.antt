@@ -22,9 +22,17 @@ abbrev μ-loop : tie.MeasureT-loop
 loop-holds : tie.Need-loop-holds Inv-loop μ-loop
 loop-holds c = (omega arith, (refl, below-none _))
 
+-- ---- points of the program, each reached from a later one
+
+abbrev to-start : tie.After-at Inv-loop μ-loop → tie.Start Inv-loop μ-loop
+to-start c = c .before .before .before .before .before
+
+-- ----
+
 loop-again : tie.Need-loop-again Inv-loop μ-loop
 loop-again c =
-    let a = c .before .before .before .before .before .args in
+    let at-start = to-start c in
+    let a = at-start .args in
     let v = c .before .before .loop .inv .1 in
     (omega arith, (simp length-set (v .0), gather-step (a .a .now ++ a .b .now) (c .before .before .loop .out) (a .i) (c .before .before .loop .k) _ (omega arith) (c .at .ensures) (v .1)))
 

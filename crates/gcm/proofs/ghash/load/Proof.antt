@@ -6,9 +6,17 @@ use borrow.Author.Needs.{needs}
 use Rattle.gcm.proofs.ghash.load.Statement.{statement}
 use Rattle.gcm.proofs.ghash.load.Tie as tie
 
+-- ---- points of the program, each reached from a later one
+
+abbrev to-start : tie.After-read-be642 → tie.Start
+to-start c = c .before .before .before .before
+
+-- ----
+
 returns : tie.Need-returns
 returns c =
-    let b = c .before .before .before .before .args .b .now in
+    let at-start = to-start c in
+    let b = at-start .args .b .now in
     rw (c .before .before .read-be64 .ensures, c .read-be642 .ensures, part-rest 8 b) (sym (number-add 8 8 b))
 
 pub load-spec : {M : Type 1} → statement M

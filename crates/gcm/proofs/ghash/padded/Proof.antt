@@ -7,9 +7,17 @@ use borrow.Author.Needs.{needs}
 use Rattle.gcm.proofs.ghash.padded.Statement.{statement}
 use Rattle.gcm.proofs.ghash.padded.Tie as tie
 
+-- ---- points of the program, each reached from a later one
+
+abbrev to-start : tie.After-load → tie.Start
+to-start c = c .before .before .before .before .before .before
+
+-- ----
+
 returns : tie.Need-returns
 returns c =
-    let a = c .before .before .before .before .before .before .args in
+    let at-start = to-start c in
+    let a = at-start .args in
     c .load .ensures ∙ direct (a .a .now) (a .b .now) (a .i) (omega arith)
 
 returns-2 : tie.Need-returns-2

@@ -6,8 +6,17 @@ use borrow.Author.Needs.{needs}
 use Rattle.gcm.proofs.ghash.plus.Statement.{statement}
 use Rattle.gcm.proofs.ghash.plus.Tie as tie
 
+-- ---- points of the program, each reached from a later one
+
+abbrev to-start : tie.After-struct-known4 → tie.Start
+to-start c = c .before .before .before .before
+
+-- ----
+
 returns : tie.Need-returns
-returns c = let a = c .before .before .before .before .args in pair-sum (a .a .hi) (a .a .lo) (a .b .hi) (a .b .lo) (omega arith) (omega arith)
+returns c =
+    let at-start = to-start c in
+    let a = at-start .args in pair-sum (a .a .hi) (a .a .lo) (a .b .hi) (a .b .lo) (omega arith) (omega arith)
 
 pub plus-spec : {M : Type 1} → statement M
 plus-spec = tie.close (tie.spec returns)

@@ -21,10 +21,18 @@ loop-holds : tie.Need-loop-holds Inv-loop μ-loop
 unfolding sum
 loop-holds c = (omega arith, (sym (div-one _), refl))
 
+-- ---- points of the program, each reached from a later one
+
+abbrev to-loop-head : tie.After-shift-four Inv-loop μ-loop → tie.At-loop Inv-loop μ-loop
+to-loop-head c = c .before .before .before .before .before .before
+
+-- ----
+
 loop-again : tie.Need-loop-again Inv-loop μ-loop
 loop-again c =
-    let v = c .before .before .before .before .before .before .loop .inv .1 in
-    let e : c .before .before .before .before .before .before .loop .rest .lo % 16 ≡ valueOf (c .before .before .before .before .before .before .loop .rest) % 16 = omega arith in (
+    let at-loop-head = to-loop-head c in
+    let v = at-loop-head .loop .inv .1 in
+    let e : at-loop-head .loop .rest .lo % 16 ≡ valueOf (at-loop-head .loop .rest) % 16 = omega arith in (
       omega arith,
       (
         c .shift-four .ensures ∙ rest-step _ _ _ (v .0),

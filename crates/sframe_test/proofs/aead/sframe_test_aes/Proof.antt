@@ -23,11 +23,20 @@ returns-4 c = inr (refl, refl)
 returns-5 : tie.Need-returns-5
 returns-5 c = inr (refl, refl)
 
+-- ---- points of the program, each reached from a later one
+
+abbrev to-expand : tie.After-slice-known2 → tie.After-expand
+to-expand c = c .before .before .before .before .before
+
+-- ----
+
 encrypt-block-requires : tie.Need-encrypt-block-requires
 encrypt-block-requires c κs = (context-ready (c .before .before .expand .ensures), (search needs, search needs))
 
 returns-6 : tie.Need-returns-6
-returns-6 c = inl (refl, rw (c .before .before .encrypt-block .ensures, context-key (c .before .before .before .before .before .expand .ensures)))
+returns-6 c =
+    let at-expand = to-expand c in
+    inl (refl, rw (c .before .before .encrypt-block .ensures, context-key (at-expand .expand .ensures)))
 
 pub sframe-test-aes-spec : {M : Type 1} → statement M
 sframe-test-aes-spec =

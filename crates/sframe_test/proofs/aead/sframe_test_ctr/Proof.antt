@@ -30,14 +30,30 @@ returns-6 c = inr (refl, refl)
 returns-7 : tie.Need-returns-7
 returns-7 c = inr (refl, refl)
 
+-- ---- points of the program, each reached from a later one
+
+abbrev to-start : tie.After-apply-arg → tie.Start
+to-start c = c .before .before .before .before .before .before .before .before .before .before .before .before .before .before
+
+abbrev to-expand : tie.After-slice-known2 → tie.After-expand
+to-expand c = c .before .before .before .before .before
+
+-- ----
+
 slice-aggregate-apply : tie.Need-slice-aggregate-apply
-slice-aggregate-apply c = sym (length-take-le _ (c .before .before .before .before .before .before .before .before .before .before .before .before .before .before .args .out .now) (omega arith))
+slice-aggregate-apply c =
+    let at-start = to-start c in
+    sym (length-take-le _ (at-start .args .out .now) (omega arith))
 
 apply-requires : tie.Need-apply-requires
-apply-requires c κs = (context-ready (c .before .before .expand .ensures), (search needs, (length-take-le _ (c .before .before .before .before .before .before .before .before .before .before .before .before .before .before .args .out .now) (omega arith), omega arith)))
+apply-requires c κs =
+    let at-start = to-start c in
+    (context-ready (c .before .before .expand .ensures), (search needs, (length-take-le _ (at-start .args .out .now) (omega arith), omega arith)))
 
 returns-8 : tie.Need-returns-8
-returns-8 c = inl (refl, rw (c .before .before .apply .ensures, context-key (c .before .before .before .before .before .expand .ensures)))
+returns-8 c =
+    let at-expand = to-expand c in
+    inl (refl, rw (c .before .before .apply .ensures, context-key (at-expand .expand .ensures)))
 
 pub sframe-test-ctr-spec : {M : Type 1} → statement M
 sframe-test-ctr-spec =

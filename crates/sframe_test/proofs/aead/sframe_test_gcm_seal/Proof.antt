@@ -33,17 +33,40 @@ returns-7 c = inr (refl, refl)
 returns-8 : tie.Need-returns-8
 returns-8 c = inr (refl, refl)
 
+-- ---- points of the program, each reached from a later one
+
+abbrev to-start-from-expand : tie.After-expand → tie.Start
+to-start-from-expand c = c .before .before .before .before .before .before .before .before .before .before .before .before .before .before .before
+
+abbrev to-start-from-encrypt-arg : tie.After-encrypt-arg → tie.Start
+to-start-from-encrypt-arg c = c .before .before .before .before .before .before .before .before .before .before .before .before .before .before .before .before .before .before .before .before
+
+abbrev to-expand-from-encrypt-arg : tie.After-encrypt-arg → tie.After-expand
+to-expand-from-encrypt-arg c = c .before .before .before .before .before
+
+abbrev to-expand-from-slice-known2 : tie.After-slice-known2 → tie.After-expand
+to-expand-from-slice-known2 c = c .before .before .before .before .before .before .before .before
+
+-- ----
+
 hash-key-requires : tie.Need-hash-key-requires
 hash-key-requires c κs = context-ready (c .before .expand .ensures)
 
 slice-aggregate-encrypt : tie.Need-slice-aggregate-encrypt
-slice-aggregate-encrypt c = sym (length-take-le _ (c .before .before .before .before .before .before .before .before .before .before .before .before .before .before .before .before .before .before .before .before .args .out .now) (omega arith))
+slice-aggregate-encrypt c =
+    let at-start = to-start-from-encrypt-arg c in
+    sym (length-take-le _ (at-start .args .out .now) (omega arith))
 
 encrypt-requires : tie.Need-encrypt-requires
-encrypt-requires c κs = ((context-ready (c .before .before .before .before .before .expand .ensures), c .before .before .before .hash-key .ensures), (search needs, (search needs, length-take-le _ (c .before .before .before .before .before .before .before .before .before .before .before .before .before .before .before .before .before .before .before .before .args .out .now) (omega arith))))
+encrypt-requires c κs =
+    let at-expand = to-expand-from-encrypt-arg c in
+    let at-start = to-start-from-expand at-expand in
+    ((context-ready (at-expand .expand .ensures), c .before .before .before .hash-key .ensures), (search needs, (search needs, length-take-le _ (at-start .args .out .now) (omega arith))))
 
 returns-9 : tie.Need-returns-9
-returns-9 c = inl (refl, rw (c .before .before .encrypt .ensures, context-key (c .before .before .before .before .before .before .before .before .expand .ensures)))
+returns-9 c =
+    let at-expand = to-expand-from-slice-known2 c in
+    inl (refl, rw (c .before .before .encrypt .ensures, context-key (at-expand .expand .ensures)))
 
 pub sframe-test-gcm-seal-spec : {M : Type 1} → statement M
 sframe-test-gcm-seal-spec =

@@ -40,12 +40,20 @@ returns-6 c = inr (inr (refl, refl))
 returns-7 : tie.Need-returns-7
 returns-7 c = inr (inr (refl, refl))
 
+-- ---- points of the program, each reached from a later one
+
+abbrev to-start : tie.Else8 → tie.Start
+to-start c = c .before .before .before .before .before .before .before .before .before .before .before .before .before .before .before .before .before .before .before .before
+
+-- ----
+
 returns-8 : tie.Need-returns-8
 returns-8 c = inl (refl, sym (c .before .before .before .decrypt .ensures .0) ∙ c .if8 .taken, c .before .before .before .decrypt .ensures .1)
 
 returns-9 : tie.Need-returns-9
 returns-9 c =
-    let a = c .before .before .before .before .before .before .before .before .before .before .before .before .before .before .before .before .before .before .before .before .args in
+    let at-start = to-start c in
+    let a = at-start .args in
     let d = decrypt (a .suite) (a .key .now) (a .nonce .now) (a .header .now ++ a .metadata .now) (a .sealed .now) in
     let e = sym (c .before .before .before .decrypt .ensures .0) ∙ c .if8 .left in
     inr (inl (refl, is-differs d e, c .before .before .before .decrypt .ensures .1 ∙ room-kept d (a .out .now) e))

@@ -15,8 +15,17 @@ returns-2 c = inr (refl, refl, refl)
 returns-3 : tie.Need-returns-3
 returns-3 c = inr (refl, refl, refl)
 
+-- ---- points of the program, each reached from a later one
+
+abbrev to-derive-key : tie.After-slice-known4 → tie.After-derive-key
+to-derive-key c = c .before .before .before .before .before .before
+
+-- ----
+
 returns-4 : tie.Need-returns-4
-returns-4 c = inl (refl, c .before .before .before .before .before .before .derive-key .ensures, c .before .before .derive-salt .ensures)
+returns-4 c =
+    let at-derive-key = to-derive-key c in
+    inl (refl, at-derive-key .derive-key .ensures, c .before .before .derive-salt .ensures)
 
 pub derive-known-spec : {M : Type 1} → statement M
 derive-known-spec =

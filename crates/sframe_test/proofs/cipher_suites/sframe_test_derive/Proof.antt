@@ -11,8 +11,21 @@ first : {A B C : Type 0} → (A → C) → A ⊎ B → C ⊎ B
 first f (inl a) = inl (f a)
 first f (inr b) = inr b
 
+-- ---- points of the program, each reached from a later one
+
+abbrev to-suite : tie.After-derive-known → tie.After-s
+to-suite c = c .before .before .before .before
+
+abbrev to-derive-known : tie.After-slice-known4 → tie.After-derive-known
+to-derive-known c = c .before .before .before .before
+
+-- ----
+
 returns : tie.Need-returns
-returns c = first (λ x. (x .0, (_, sym (c .before .before .before .before .before .before .before .before .before .before .find .ensures) ∙ c .before .before .before .before .before .before .before .before .s .given .1, x .1, x .2))) (c .before .before .before .before .derive-known .ensures)
+returns c =
+    let at-derive-known = to-derive-known c in
+    let at-suite = to-suite at-derive-known in
+    first (λ x. (x .0, (_, sym (at-suite .before .before .find .ensures) ∙ at-suite .s .given .1, x .1, x .2))) (at-derive-known .derive-known .ensures)
 
 returns-2 : tie.Need-returns-2
 returns-2 c = inr (refl, refl, refl)

@@ -12,8 +12,17 @@ both-first f g (inl a) = inl (f a)
 both-first f g (inr (inl b)) = inr (inl (g b))
 both-first f g (inr (inr r)) = inr (inr r)
 
+-- ---- points of the program, each reached from a later one
+
+abbrev to-suite : tie.After-slice-known2 → tie.After-s
+to-suite c = c .before .before .before .before .before
+
+-- ----
+
 returns : tie.Need-returns
-returns c = let e = sym (c .before .before .before .before .before .before .before .find .ensures) ∙ c .before .before .before .before .before .s .given .1 in both-first (λ x. (x .0, (_, e, x .1, x .2))) (λ x. (x .0, (_, e, x .1), x .2)) (c .before .before .decrypt-known .ensures)
+returns c =
+    let at-suite = to-suite c in
+    let e = sym (at-suite .before .before .find .ensures) ∙ at-suite .s .given .1 in both-first (λ x. (x .0, (_, e, x .1, x .2))) (λ x. (x .0, (_, e, x .1), x .2)) (c .before .before .decrypt-known .ensures)
 
 returns-2 : tie.Need-returns-2
 returns-2 c = inr (inr (refl, refl))

@@ -11,8 +11,17 @@ first : {A B C : Type 0} → (A → C) → A ⊎ B → C ⊎ B
 first f (inl a) = inl (f a)
 first f (inr b) = inr b
 
+-- ---- points of the program, each reached from a later one
+
+abbrev to-suite : tie.After-slice-known2 → tie.After-s
+to-suite c = c .before .before .before .before .before
+
+-- ----
+
 returns : tie.Need-returns
-returns c = first (λ x. (x .0, (_, sym (c .before .before .before .before .before .before .before .find .ensures) ∙ c .before .before .before .before .before .s .given .1, x .1))) (c .before .before .encrypt-known .ensures)
+returns c =
+    let at-suite = to-suite c in
+    first (λ x. (x .0, (_, sym (at-suite .before .before .find .ensures) ∙ at-suite .s .given .1, x .1))) (c .before .before .encrypt-known .ensures)
 
 returns-2 : tie.Need-returns-2
 returns-2 c = inr (refl, refl)

@@ -4,8 +4,17 @@ use Rattle.suites.proofs.Steps.{lengths-written}
 use Rattle.suites.proofs.hmac_tag.lengths.Statement.{statement}
 use Rattle.suites.proofs.hmac_tag.lengths.Tie as tie
 
+-- ---- points of the program, each reached from a later one
+
+abbrev to-write-be-at2 : tie.After-l6 → tie.After-write-be-at2
+to-write-be-at2 c = c .before .before .before .before
+
+-- ----
+
 returns : tie.Need-returns
-returns c = (lengths-written _ _ _ _ _ _ _ refl (c .before .before .before .before .before .before .before .write-be-at .ensures) (c .before .before .before .before .write-be-at2 .ensures) (c .before .write-be-at3 .ensures), search needs)
+returns c =
+    let at-write-be-at2 = to-write-be-at2 c in
+    (lengths-written _ _ _ _ _ _ _ refl (at-write-be-at2 .before .before .before .write-be-at .ensures) (at-write-be-at2 .write-be-at2 .ensures) (c .before .write-be-at3 .ensures), search needs)
 
 pub lengths-spec : {M : Type 1} → statement M
 lengths-spec =
