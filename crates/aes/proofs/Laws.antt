@@ -9,7 +9,7 @@ use lib.Seq.{take-all, drop-drop}
 use Rattle.octets.specs.Octets.{Octets, number, bytes}
 use Rattle.octets.proofs.Laws.{bytes-length, bytes-octets, bytes-number, octets-append, octets-drop}
 use Rattle.aes.specs.Aes.{KeySize, stateOf, blockOf, encrypt}
-use Rattle.aes.specs.Context.{Context, Ready, keyOf}
+use Rattle.aes.specs.inner.Context.{Context, Ready, keyOf}
 
 -- The two instances: AES-128 and AES-256.
 pub aes-128 : KeySize 16

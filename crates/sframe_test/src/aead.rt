@@ -8,7 +8,7 @@ ghost use lib.ListN.{length, drop};
 ghost use Rattle.octets.specs.Octets.{number, bytes};
 ghost use Rattle.aes.specs.Aes.{encrypt};
 ghost use Rattle.gcm.specs.Counter.{ctr};
-ghost use Rattle.gcm.specs.Ghash.{absorb};
+ghost use Rattle.ghash.specs.Ghash.{absorb};
 ghost use Rattle.gcm.specs.Gcm.{gcmTag, gcmEncrypt};
 
 // The longest input that GCM takes, part by part, and the last block count that an input of that length may start at.
@@ -93,9 +93,9 @@ pub extern "C" fn sframe_test_ghash(key: &[u8], input: &[u8], out: &mut [u8]) ->
     if out.len() < 16 {
         return 1;
     }
-    let t = gcm::ghash::expand(gcm::ghash::load(key));
-    let y = gcm::ghash::absorb(&t, gcm::ghash::Block { hi: 0, lo: 0 }, input, &input[..0]);
-    gcm::ghash::store(out, y);
+    let t = ghash::expand(ghash::load(key));
+    let y = ghash::absorb(&t, ghash::Block { hi: 0, lo: 0 }, input, &input[..0]);
+    ghash::store(out, y);
     0
 }
 

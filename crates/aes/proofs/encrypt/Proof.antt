@@ -4,7 +4,7 @@ use mathlib.Core.Path.{_≡_, refl}
 use Prim.Native.Nat.{_+_, _≤_, _-_}
 use native.Mathlib.Omega.{arith}
 use Rattle.aes.specs.Aes.{rounds}
-use Rattle.aes.specs.Context.{listOf}
+use Rattle.aes.specs.inner.Context.{listOf}
 use Rattle.aes.proofs.Expansion.{rounds-step, encrypted}
 use borrow.Author.Needs.{needs}
 use Rattle.aes.proofs.encrypt.Statement.{statement}

@@ -5,7 +5,7 @@ use mathlib.Core.List.{_++_}
 use native.Mathlib.Omega.{arith}
 use lib.ListN.{length, drop}
 use lib.Seq.{length-take-le}
-use Rattle.aes.specs.Context.{keyOf}
+use Rattle.aes.specs.inner.Context.{keyOf}
 use Rattle.gcm.proofs.Laws.{ctr-length}
 use Rattle.gcm.proofs.Tags.{front-length, sealed}
 use borrow.Author.Needs.{needs}

@@ -4,7 +4,7 @@ use mathlib.Core.Path.{ap, _∙_}
 use mathlib.Core.List.{_++_}
 use Prim.Native.Nat.{ℕ}
 use Rattle.gcm.specs.Gcm.{hash}
-use Rattle.gcm.proofs.Laws.{hash-key-of, hash-key-ready}
+use Rattle.ghash.proofs.Laws.{hash-key-of, hash-key-ready}
 use Rattle.gcm.proofs.Tags.{tagged}
 use borrow.Author.Needs.{needs}
 use Rattle.gcm.proofs.tag.Statement.{statement}

@@ -6,8 +6,9 @@ use Prim.Native.Nat.{_*_, _-_, _≤_, min}
 use native.Mathlib.Omega.{arith}
 use lib.ListN.{length, take, drop}
 use Rattle.octets.specs.Octets.{xors}
-use Rattle.aes.specs.Context.{keyOf}
-use Rattle.gcm.specs.Counter.{blocks, keyStream}
+use Rattle.aes.specs.inner.Context.{keyOf}
+use Rattle.gcm.specs.Counter.{keyStream}
+use Rattle.aes.specs.Aes.{blocks}
 use Rattle.gcm.proofs.Streams.{part-length, apply-step, apply-done}
 use borrow.Author.Needs.{needs}
 use Rattle.gcm.proofs.counter.apply.Statement.{statement}

@@ -4,7 +4,7 @@ use mathlib.Core.Path.{refl, sym}
 use mathlib.Core.Logic.{inl, inr}
 use native.Mathlib.Omega.{arith}
 use mathlib.Core.List.{append-nil}
-use Rattle.gcm.proofs.Laws.{hash-key-of, hash-key-ready}
+use Rattle.ghash.proofs.Laws.{hash-key-of, hash-key-ready}
 use borrow.Author.Needs.{needs}
 use Rattle.sframe_test.proofs.aead.sframe_test_ghash.Statement.{statement}
 use Rattle.sframe_test.proofs.aead.sframe_test_ghash.Tie as tie
