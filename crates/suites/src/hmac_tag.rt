@@ -7,7 +7,7 @@ ghost use Rattle.octets.specs.Octets.{bytes};
 ghost use Rattle.sha2.specs.Sizes.{sha256};
 ghost use Rattle.hmac.specs.Hmac.{hmac};
 ghost use Rattle.hmac.specs.Hkdf.{hashLen};
-ghost use Rattle.gcm.specs.Gcm.{maxBytes};
+ghost use Rattle.gcm.specs.inner.Limits.{maxBytes};
 ghost use Rattle.suites.specs.Suites.{Nn};
 ghost use Rattle.suites.specs.Aead.{lengthSize, tagInput};
 use hmac::HmacSha256;

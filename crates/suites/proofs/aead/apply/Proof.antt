@@ -1,7 +1,7 @@
 use mathlib.Core.Path.{_∙_, ap}
 use native.Mathlib.Omega.{arith}
 use borrow.Author.Needs.{needs}
-use Rattle.aes.specs.Context.{keyOf}
+use Rattle.aes.specs.inner.Context.{keyOf}
 use Rattle.gcm.specs.Counter.{ctr}
 use Rattle.gcm.proofs.Laws.{counts-fit}
 use Rattle.suites.proofs.Steps.{front-size, front-lent}

@@ -1,10 +1,11 @@
 use mathlib.Core.Path.{refl, sym, _∙_}
+use mathlib.Core.Bool.{true, false}
 use Prim.Native.Nat.{_-_}
 use native.Mathlib.Omega.{arith}
 use lib.ListN.{length}
 use borrow.Author.Tests.{not-true, not-false}
 use borrow.Author.Needs.{needs}
-use Rattle.suites.proofs.Steps.{front-most, room-opened, opened, refused}
+use Rattle.suites.proofs.Steps.{front-most, room-opened, compared-tag}
 use Rattle.aes.proofs.Laws.{context-key, context-ready}
 use Rattle.suites.proofs.Laws.{Nt-most}
 use Rattle.suites.proofs.aead.decrypt.Statement.{statement}
@@ -51,7 +52,7 @@ returns c =
     let at-start = to-start-from-tag-size at-tag-size in
     let a = at-start .args in
     let pre = at-start .pre in
-    let e = refused (a .suite) (a .key .now) (a .nonce .now) _ (a .sealed .now) _ _ _ (at-tag-size .tag-size .ensures) refl (omega (arith, pre .1 .1 .0, at-tag-size .tag-size .ensures))
+    let e = compared-tag (a .suite) (a .key .now) (a .nonce .now) _ (a .sealed .now) _ _ _ false (at-tag-size .tag-size .ensures) refl (omega (arith, pre .1 .1 .0, at-tag-size .tag-size .ensures))
     (at-tag-of .tag-of .ensures .0) (sym (c .before .equal .ensures) ∙ not-true _ (c .if1 .taken)) in
     (rw e, rw e)
 
@@ -77,7 +78,7 @@ returns-2 c =
     let a = at-start .args in
     let pre = at-start .pre in
     let n = length (a .sealed .now) - at-tag-size .tag-size .result in
-    let e = opened (a .suite) (a .key .now) (a .nonce .now) _ (a .sealed .now) _ _ _ (at-tag-size .tag-size .ensures) refl (omega (arith, pre .1 .1 .0, at-tag-size .tag-size .ensures))
+    let e = compared-tag (a .suite) (a .key .now) (a .nonce .now) _ (a .sealed .now) _ _ _ true (at-tag-size .tag-size .ensures) refl (omega (arith, pre .1 .1 .0, at-tag-size .tag-size .ensures))
     (at-tag-of .tag-of .ensures .0) (sym (at-tag-equal .before .equal .ensures) ∙ not-false _ (at-tag-equal .if1 .left)) in
     (rw e, rw e (room-opened (a .suite) (a .key .now) (a .nonce .now) (a .sealed .now) (a .out .now) _ _ n (context-key (at-tag-of .before .before .before .context .ensures)) (c .before .before .apply .ensures)))
 

@@ -1,36 +1,27 @@
+use mathlib.Core.Path.{_∙_, ap}
 use borrow.Author.Needs.{needs}
-use Rattle.suites.proofs.Steps.{key-derived}
+use Rattle.suites.specs.Derivation.{derived, sframeKey}
 use Rattle.suites.proofs.Laws.{Nk-most}
 use Rattle.suites.proofs.derivation.derive_key.Statement.{statement}
 use Rattle.suites.proofs.derivation.derive_key.Tie as tie
 
 -- ---- points of the program, each reached from a later one
 
-abbrev to-start : tie.After-expand-label-arg → tie.Start
-to-start c = c .before .before .before .before .before
-
-abbrev to-key-label : tie.After-slice-known2 → tie.After-key-label
-to-key-label c = c .before .before .before .before .before
+abbrev to-start : tie.After-slice-known2 → tie.Start
+to-start c = c .before .before .before .before .before .before .before
 
 -- ----
 
-expand-label-requires : tie.Need-expand-label-requires
-expand-label-requires c κs =
-    let at-start = to-start c in
-    let n = Nk-most (at-start .args .suite) in search needs
-
 returns : tie.Need-returns
+unfolding sframeKey
 returns c =
-    let at-key-label = to-key-label c in
-    let s = at-key-label .before .before .before in
-    key-derived (s .args .suite) _ _ _ _ _ (at-key-label .key-label .ensures .0) (s .pre .1) (c .before .before .expand-label .ensures)
+    let at-start = to-start c in
+    c .before .before .derive .ensures ∙ ap (derived _ _ _ _) (at-start .pre .1)
+
+derive-requires : tie.Need-derive-requires
+derive-requires c κs =
+    let n = Nk-most (c .before .before .before .before .args .suite) in
+    search needs
 
 pub derive-key-spec : {M : Type 1} → statement M
-derive-key-spec =
-    tie.close
-    (tie.spec
-    (λ c κs. search needs)
-    (λ c. search needs)
-    expand-label-requires
-    (λ c. search needs)
-    returns)
+derive-key-spec = tie.close (tie.spec (λ c. search needs) derive-requires (λ c. search needs) returns)
