@@ -83,7 +83,7 @@ unfoldable pub expansion : (nk : ℕ) (key : List ℕ) (n : ℕ) → List ℕ
 expansion nk key zero = []
 expansion nk key (suc n) = expansion nk key n ++ (nextWord nk key n (expansion nk key n) ∷ [])
 
--- §5, Table 3: Nk and Nr. A key of 16 bytes is AES-128's, one of 32 bytes AES-256's.
+-- §5, Table 3: Nk and Nr. A key of 16 bytes is AES-128's, one of 24 AES-192's, one of 32 AES-256's.
 abbrev pub Nk : List ℕ → ℕ
 Nk key = length key / 4
 
@@ -116,8 +116,8 @@ blockOf s = bytes 4 (getD s 0 0) ++ (bytes 4 (getD s 1 0) ++ (bytes 4 (getD s 2 
 unfoldable pub encrypt : List ℕ → List ℕ → List ℕ
 encrypt key block = blockOf (encryptState key (stateOf block))
 
--- The keys that the definition takes: whole words, 4 to 8 of them. AES-128 has 16 bytes, AES-256 has 32.
+-- §5, Table 3: the key lengths, 128, 192 and 256 bits, in bytes: the multiples of 8 from 16 to 32.
 pub record KeySize (n : ℕ) : Type 0 where
-  pub whole : n % 4 ≡ 0
+  pub whole : n % 8 ≡ 0
   pub least : 16 ≤ n
   pub most : n ≤ 32
