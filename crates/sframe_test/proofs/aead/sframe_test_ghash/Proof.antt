@@ -1,6 +1,6 @@
 -- `sframe_test::aead::sframe_test_ghash` meets its contract: the tests leave what the functions below require, and a refusal changes nothing.
 -- Assumes nothing.
-use mathlib.Core.Path.{refl, sym}
+use mathlib.Core.Path.{refl}
 use mathlib.Core.Logic.{inl, inr}
 use native.Mathlib.Omega.{arith}
 use mathlib.Core.List.{append-nil}
@@ -10,13 +10,13 @@ use Rattle.sframe_test.proofs.aead.sframe_test_ghash.Statement.{stateme
 use Rattle.sframe_test.proofs.aead.sframe_test_ghash.Tie as tie
 
 returns : tie.Need-returns
-returns c = inr (refl, refl)
+returns c = inr (refl, (λ t. omega arith), refl)
 
 returns-2 : tie.Need-returns-2
-returns-2 c = inr (refl, refl)
+returns-2 c = inr (refl, (λ t. omega arith), refl)
 
 returns-3 : tie.Need-returns-3
-returns-3 c = inr (refl, refl)
+returns-3 c = inr (refl, (λ t. omega arith), refl)
 
 -- ---- points of the program, each reached from a later one
 
@@ -41,6 +41,7 @@ returns-4 c =
     let at-start = to-start at-load in
     inl (
       refl,
+      record { keyed = omega arith; short = omega arith; room = omega arith },
       rw (
         c .before .before .store .ensures,
         at-absorb .absorb .ensures,

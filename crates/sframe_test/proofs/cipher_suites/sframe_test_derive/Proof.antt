@@ -1,15 +1,9 @@
 -- `sframe_test::cipher_suites::sframe_test_derive` meets its contract: what it answers for a known suite is handed on.
 -- Assumes nothing.
 use mathlib.Core.Path.{refl, sym, _∙_}
-use mathlib.Core.Logic.{_⊎_, inl, inr}
 use borrow.Author.Needs.{needs}
 use Rattle.sframe_test.proofs.cipher_suites.sframe_test_derive.Statement.{statement}
 use Rattle.sframe_test.proofs.cipher_suites.sframe_test_derive.Tie as tie
-
--- the first case, changed
-first : {A B C : Type 0} → (A → C) → A ⊎ B → C ⊎ B
-first f (inl a) = inl (f a)
-first f (inr b) = inr b
 
 -- ---- points of the program, each reached from a later one
 
@@ -25,10 +19,10 @@ returns : tie.Need-returns
 returns c =
     let at-derive-known = to-derive-known c in
     let at-suite = to-suite at-derive-known in
-    first (λ x. (x .0, (_, sym (at-suite .before .before .find .ensures) ∙ at-suite .s .given .1, x .1, x .2))) (at-derive-known .derive-known .ensures)
+    rw (sym (at-suite .before .before .find .ensures) ∙ at-suite .s .given .1) (at-derive-known .derive-known .ensures)
 
 returns-2 : tie.Need-returns-2
-returns-2 c = inr (refl, refl, refl)
+returns-2 c = rw (sym (c .before .before .find .ensures) ∙ c .enum-told .given .1) (refl, refl, refl)
 
 pub sframe-test-derive-spec : {M : Type 1} → statement M
 sframe-test-derive-spec =
