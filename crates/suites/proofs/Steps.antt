@@ -1,15 +1,16 @@
 -- The steps of the code, over plain variables. Assumes nothing.
 use mathlib.Core.Path.{_≡_, refl, sym, _∙_, ap, ap₂}
-use mathlib.Core.List.{List, [], _++_, append-assoc, append-nil}
+use mathlib.Core.List.{List, [], _++_, append-nil}
 use mathlib.Core.Bool.{Bool}
 use Prim.Native.Nat.{ℕ, _+_, _-_, _≤_}
 use native.Mathlib.Nat.{sub-zero}
 use native.Mathlib.Omega.{arith}
-use lib.ListN.{length, take, drop, length-append, length-take, length-drop, drop-of-length-le}
+use lib.ListN.{length, take, drop, length-append, length-take, length-drop}
 use lib.Seq.{length-take-le, take-append-le, take-take, take-all, take-at}
 use borrow.Author.Tests.{le-leb}
 use Rattle.octets.specs.Octets.{bytes, pasted, xors, same, pick}
-use Rattle.octets.proofs.Laws.{bytes-length, pasted-append, pasted-front, part-rest}
+use Rattle.hmac_tag.proofs.Writing.{front-all, three-written}
+use Rattle.octets.proofs.Laws.{bytes-length, pasted-front, part-rest}
 use Rattle.sha2.specs.Sha2.{Params}
 use Rattle.hmac.specs.Hkdf.{extract, expand}
 use Rattle.suites.specs.declared.sizes.Suite.{Suite}
@@ -21,25 +22,10 @@ use Rattle.sha2.specs.Sizes.{sha256}
 use Rattle.hmac.specs.Hmac.{hmac}
 use Rattle.gcm.specs.Counter.{ctr}
 use Rattle.gcm.specs.Gcm.{gcmTag}
-use Rattle.suites.specs.Aead.{tagInput, cipherKey, firstCount, ctrTag, tag, ciphertext, encrypt, decrypt, plain, differs}
+use Rattle.hmac_tag.specs.TagInput.{tagInput}
+use Rattle.suites.specs.Aead.{cipherKey, firstCount, ctrTag, tag, ciphertext, encrypt, decrypt, plain, differs}
 use Rattle.suites.proofs.Laws.{cipher-key-size, gcm-sizes, whole-key, tag-length, ciphertext-length}
 use Rattle.suites.specs.Derivation.{secret, label, derived, nonce}
-
--- what is written over the whole of a list is what the list then is
-front-all : (x l : List ℕ) (n : ℕ) → length l ≤ n → x ++ drop n l ≡ x
-front-all x l n h = ap (λ (t : List ℕ). x ++ t) (drop-of-length-le l h) ∙ append-nil x
-
--- three strings written one after the other
-three-written : (o a b r x y z : List ℕ) (i j : ℕ) → length x + length y + length z ≤ length o → i ≡ length x → j ≡ length x + length y
-    → a ≡ pasted o 0 x → b ≡ pasted a i y → r ≡ pasted b j z → r ≡ pasted o 0 (x ++ (y ++ z))
-three-written o a b r x y z i j h ei ej p q w =
-    let e : i ≡ 0 + length x = omega arith in
-    let two : b ≡ pasted o 0 (x ++ y) = q ∙ ap₂ (λ (l : List ℕ) (k : ℕ). pasted l k y) p e ∙ pasted-append o 0 x y (omega arith) in
-    let f : j ≡ 0 + length (x ++ y) = simp length-append (omega arith) in
-    w
-    ∙ ap₂ (λ (l : List ℕ) (k : ℕ). pasted l k z) two f
-    ∙ pasted-append o 0 (x ++ y) z (simp length-append (omega arith))
-    ∙ ap (pasted o 0) (append-assoc x y z)
 
 pub label-written : (o a b r t : List ℕ) (s : Suite) (n kid : ℕ) → length t + 10 ≤ length o → a ≡ pasted o 0 t → b ≡ pasted a (length t) (bytes 8 kid)
     → r ≡ pasted b (length t + 8) (bytes 2 n) → n ≡ numberOf s → r ≡ pasted o 0 (label t s kid)
@@ -72,24 +58,6 @@ expanded p s base e l r n is x w = rw (w, x, is)
 pub label-derived : (s : Suite) (base t l r : List ℕ) (kid n : ℕ) → l ≡ label t s kid → r ≡ expand (hashOf s) (secret s base) l n → r ≡ derived t s base kid n
 unfolding derived
 label-derived s base t l r kid n e w = rw (w, e)
-
--- three numbers of 8 bytes written one after the other fill 24 bytes
-pub lengths-written : (o a b r : List ℕ) (x y z : ℕ) → length o ≡ 24 → a ≡ pasted o 0 (bytes 8 x) → b ≡ pasted a 8 (bytes 8 y) → r ≡ pasted b 16 (bytes 8 z)
-    → r ≡ bytes 8 x ++ (bytes 8 y ++ bytes 8 z)
-lengths-written o a b r x y z h p q w =
-    let lx = bytes-length 8 x in
-    let ly = bytes-length 8 y in
-    let lz = bytes-length 8 z in
-    let l = bytes 8 x ++ (bytes 8 y ++ bytes 8 z) in
-    three-written o a b r (bytes 8 x) (bytes 8 y) (bytes 8 z) 8 16 (omega arith) (omega arith) (omega arith) p q w
-    ∙ pasted-front o l
-    ∙ front-all l o (length l) (simp (length-append, bytes-length) (omega arith))
-
--- the parts that are fed make the tag's input
-pub parts-fed : (l n h m c : List ℕ) (nt : ℕ) → l ≡ bytes 8 (length h + length m) ++ (bytes 8 (length c) ++ bytes 8 nt)
-    → ((((([] ++ l) ++ n) ++ h) ++ m) ++ c) ≡ tagInput nt n (h ++ m) c
-unfolding tagInput
-parts-fed l n h m c nt e = rw (e, length-append h m) (simp append-assoc)
 
 -- ---- encryption and decryption
 

@@ -4,9 +4,10 @@ use mathlib.Core.List.{List, _++_}
 use Prim.Native.Nat.{ℕ, _-_}
 use lib.Dec.{leb}
 use lib.ListN.{length, take, drop}
-use Rattle.octets.specs.Octets.{bytes, pick, both, same}
+use Rattle.octets.specs.Octets.{pick, both, same}
 use Rattle.sha2.specs.Sizes.{sha256}
 use Rattle.hmac.specs.Hmac.{hmac}
+use Rattle.hmac_tag.specs.TagInput.{tagInput}
 use Rattle.gcm.specs.Counter.{ctr}
 use Rattle.gcm.specs.Gcm.{gcmTag}
 use Rattle.suites.specs.declared.sizes.Suite.{Suite}
@@ -29,16 +30,6 @@ firstCount Gcm = 2
 -- The ciphertext: AES in counter mode. It is a XOR with a key stream, and so its own inverse.
 unfoldable pub ciphertext : (s : Suite) (key nonce plaintext : List ℕ) → List ℕ
 ciphertext s key nonce plaintext = ctr (cipherKey s key) nonce (firstCount (modeOf s)) plaintext
-
--- The bytes of a length in the tag's input.
-abbrev pub lengthSize : ℕ
-lengthSize = 8
-
--- 4.5.1: the tag's input: the lengths of the associated data and of the ciphertext, and the tag's, in 8 bytes each; the
--- nonce, the associated data and the ciphertext.
-unfoldable pub tagInput : (nt : ℕ) (nonce aad ciphertext : List ℕ) → List ℕ
-tagInput nt nonce aad ciphertext =
-    bytes lengthSize (length aad) ++ (bytes lengthSize (length ciphertext) ++ (bytes lengthSize nt ++ (nonce ++ (aad ++ ciphertext))))
 
 -- 4.5.1: the first Nt bytes of the HMAC.
 unfoldable pub ctrTag : (nt : ℕ) (key nonce aad ciphertext : List ℕ) → List ℕ

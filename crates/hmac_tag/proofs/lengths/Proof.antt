@@ -1,8 +1,8 @@
 use mathlib.Core.Path.{refl}
 use borrow.Author.Needs.{needs}
-use Rattle.suites.proofs.Steps.{lengths-written}
-use Rattle.suites.proofs.hmac_tag.lengths.Statement.{statement}
-use Rattle.suites.proofs.hmac_tag.lengths.Tie as tie
+use Rattle.hmac_tag.proofs.Steps.{lengths-written}
+use Rattle.hmac_tag.proofs.lengths.Statement.{statement}
+use Rattle.hmac_tag.proofs.lengths.Tie as tie
 
 -- ---- points of the program, each reached from a later one
 

@@ -7,9 +7,9 @@ ghost use Rattle.octets.specs.Octets.{bytes};
 ghost use Rattle.sha2.specs.Sizes.{sha256};
 ghost use Rattle.hmac.specs.Hmac.{hmac};
 ghost use Rattle.hmac.specs.Hkdf.{hashLen};
+ghost use Rattle.gcm.specs.Counter.{nonceSize};
 ghost use Rattle.gcm.specs.inner.Limits.{maxBytes};
-ghost use Rattle.suites.specs.Suites.{Nn};
-ghost use Rattle.suites.specs.Aead.{lengthSize, tagInput};
+ghost use Rattle.hmac_tag.specs.TagInput.{lengthSize, tagInput};
 use hmac::HmacSha256;
 
 // The bytes of one length, and of three.
@@ -40,7 +40,7 @@ pub fn mac(
     metadata: &[u8],
     ciphertext: &[u8],
 ) -> [u8; NH]
-    requires { ⌜ (length (now key) ≡ hashLen sha256) × (length (now nonce) ≡ Nn) ⌝ }
+    requires { ⌜ (length (now key) ≡ hashLen sha256) × (length (now nonce) ≡ nonceSize) ⌝ }
     requires { ⌜ (length (now header) ≤ maxBytes) × (length (now metadata) ≤ maxBytes) × (length (now ciphertext) ≤ maxBytes) ⌝ }
     ensures { λ r. ⌜ (r ≡ hmac sha256 (now (key .entry)) (tagInput nt (now (nonce .entry)) (now (header .entry) ++ now (metadata .entry)) (now (ciphertext .entry)))) × (length r ≡ hashLen sha256) ⌝ }
 {

@@ -3,9 +3,9 @@ use native.Mathlib.Omega.{arith}
 use borrow.Author.Needs.{needs}
 use Rattle.sha2.specs.Sizes.{sha256}
 use Rattle.hmac.specs.Hmac.{hmac}
-use Rattle.suites.proofs.Steps.{parts-fed}
-use Rattle.suites.proofs.hmac_tag.mac.Statement.{statement}
-use Rattle.suites.proofs.hmac_tag.mac.Tie as tie
+use Rattle.hmac_tag.proofs.Steps.{parts-fed}
+use Rattle.hmac_tag.proofs.mac.Statement.{statement}
+use Rattle.hmac_tag.proofs.mac.Tie as tie
 
 -- ---- points of the program, each reached from a later one
 
