@@ -7,20 +7,24 @@ use Rattle.suites.proofs.derivation.derive_key.Tie as tie
 
 -- ---- points of the program, each reached from a later one
 
-abbrev to-start : tie.After-slice-known2 → tie.Start
-to-start c = c .before .before .before .before .before .before .before
+abbrev to-start-from-derive-arg2 : tie.After-derive-arg2 → tie.Start
+to-start-from-derive-arg2 c = c .before .before .before .before
+
+abbrev to-start-from-slice-known2 : tie.After-slice-known2 → tie.Start
+to-start-from-slice-known2 c = c .before .before .before .before .before .before .before
 
 -- ----
 
 returns : tie.Need-returns
 unfolding sframeKey
 returns c =
-    let at-start = to-start c in
+    let at-start = to-start-from-slice-known2 c in
     c .before .before .derive .ensures ∙ ap (derived _ _ _ _) (at-start .pre .1)
 
 derive-requires : tie.Need-derive-requires
 derive-requires c κs =
-    let n = Nk-most (c .before .before .before .before .args .suite) in
+    let at-start = to-start-from-derive-arg2 c in
+    let n = Nk-most (at-start .args .suite) in
     search needs
 
 pub derive-key-spec : {M : Type 1} → statement M
