@@ -8,9 +8,9 @@ use borrow.Author.Count.{below-more}
 use lib.Bits.{bitXor, xor-lt}
 use lib.ListN.{length, getD, set, length-set}
 use lib.Seq.{getD-set-same, getD-set-other}
-use Rattle.aes.specs.Field.{mul, sBox}
+use Rattle.aes_tables.specs.Field.{mul, sBox}
 use Rattle.aes.specs.Aes.{word, byte, subWord, subBytes, shiftRows, mixColumn, mixColumns}
-use Rattle.aes.specs.Context.{mixedByte, mixed, Table}
+use Rattle.aes.specs.inner.Context.{mixedByte, mixed, Table}
 use Rattle.aes.proofs.Words.{twice-lt, thrice-lt, sBox-lt, byte-0, byte-1, byte-2, byte-3, right-1, right-2, right-3, word-xor}
 
 pub table-step : (ctx : List ℕ) (x v : ℕ) → x < 256 → v ≡ mixed x → Table x ctx → Table (x + 1) (set ctx (64 + x) v)

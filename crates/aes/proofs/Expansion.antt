@@ -1,7 +1,6 @@
 -- Laws of the key schedule and of the cipher that reads it.
 -- Assumes nothing.
 use mathlib.Core.Path.{_≡_, refl, ap, sym, _∙_}
-use mathlib.Core.Bool.{Bool}
 use mathlib.Core.List.{List, [], _∷_, _++_}
 use Prim.Native.Nat.{ℕ, zero, suc, _+_, _*_, _-_, _/_, _%_, _^_, _≤_, _<_}
 use mathlib.Core.Logic.{⊎-elim}
@@ -9,25 +8,14 @@ use native.Mathlib.Nat.{div-lt-iff-lt-mul, le-div-iff-mul-le, eq-or-lt-of-le, le
 use native.Mathlib.Numerals.{add-one}
 use native.Mathlib.Omega.{arith}
 use borrow.Author.Tests.{lt-ltb}
-use lib.Dec.{T, eqb, eqb→eq}
 use lib.ListN.{length, getD, set, take, drop, length-set, length-append, length-drop, List·getD-append}
 use lib.Seq.{getD-set-same, getD-set-other, getD-take, getD-at, take-suc-set, take-set-le, take-add, take-all}
 use Rattle.octets.specs.Octets.{Octets, number, bytes}
 use Rattle.octets.proofs.Laws.{bytes-number, octets-drop}
-use Rattle.aes.specs.Aes.{word, byte, subWord, rotWord, subBytes, shiftRows, mixColumns, addRoundKey, rounds, cipher, nextWord, expansion, keyExpansion, encryptState, xPower, RconTable, Nk, Nr, KeySize}
-use Rattle.aes.specs.Context.{Table, Filled, Context, wordBytes, keyOf}
+use Rattle.aes.specs.Aes.{word, byte, rotWord, subBytes, shiftRows, mixColumns, addRoundKey, rounds, cipher, nextWord, expansion, keyExpansion, encryptState, Nk, Nr, KeySize}
+use Rattle.aes_tables.specs.Field.{xPower}
+use Rattle.aes.specs.inner.Context.{Table, Filled, Context, wordBytes, keyOf}
 use Rattle.aes.proofs.Words.{xTimes-lt, word-bytes, left-1}
-use Rattle.aes.proofs.Entries.{all, entry-rule}
-
--- The table of round constants: entry k is x^k.
-abbrev pub isPower : ℕ → ℕ → Bool
-isPower k x = eqb x (xPower k)
-
-pub power-entry : (l : List ℕ) → T (all isPower 0 l) → (k : ℕ) → k < length l → getD l k 0 ≡ xPower k
-power-entry l t k h = eqb→eq _ _ (entry-rule isPower l t k h)
-
-pub rcon-table : (l : List ℕ) → T (all isPower 0 l) → length l ≡ 10 → RconTable l
-rcon-table l t e = record { sized = e; entry = λ k h. power-entry l t k (omega arith) }
 
 pub xPower-lt : (n : ℕ) → xPower n < 256
 unfolding xPower

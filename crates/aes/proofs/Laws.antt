@@ -2,14 +2,16 @@
 -- Assumes nothing.
 use mathlib.Core.Path.{_≡_, sym, subst}
 use mathlib.Core.List.{List, _++_}
-use Prim.Native.Nat.{ℕ, _+_, _*_, _≤_}
+use mathlib.Core.Logic.{_⊎_, inl, inr}
+use Prim.Native.Nat.{ℕ, zero, suc, _+_, _*_, _/_, _%_, _≤_}
+use native.Mathlib.Nat.{div-add-mod'}
 use native.Mathlib.Omega.{arith}
 use lib.ListN.{length, getD, take, drop, length-append, length-drop, take-append-drop}
 use lib.Seq.{take-all, drop-drop}
 use Rattle.octets.specs.Octets.{Octets, number, bytes}
 use Rattle.octets.proofs.Laws.{bytes-length, bytes-octets, bytes-number, octets-append, octets-drop}
 use Rattle.aes.specs.Aes.{KeySize, stateOf, blockOf, encrypt}
-use Rattle.aes.specs.Context.{Context, Ready, keyOf}
+use Rattle.aes.specs.inner.Context.{Context, Ready, keyOf}
 
 -- The two instances: AES-128 and AES-256.
 pub aes-128 : KeySize 16
@@ -17,6 +19,18 @@ aes-128 = record { whole = omega arith; least = omega arith; most = omega arith 
 
 pub aes-256 : KeySize 32
 aes-256 = record { whole = omega arith; least = omega arith; most = omega arith }
+
+-- A key of AES has 16, 24 or 32 bytes.
+pub key-sizes : (n : ℕ) → KeySize n → (n ≡ 16) ⊎ ((n ≡ 24) ⊎ (n ≡ 32))
+key-sizes n k = by (n / 8) (div-add-mod' n 8)
+  where
+    by : (q : ℕ) → q * 8 + n % 8 ≡ n → (n ≡ 16) ⊎ ((n ≡ 24) ⊎ (n ≡ 32))
+    by zero e = absurd (omega (arith, k .whole, k .least, k .most))
+    by (suc zero) e = absurd (omega (arith, k .whole, k .least, k .most))
+    by (suc (suc zero)) e = inl (omega (arith, k .whole))
+    by (suc (suc (suc zero))) e = inr (inl (omega (arith, k .whole)))
+    by (suc (suc (suc (suc zero)))) e = inr (inr (omega (arith, k .whole)))
+    by (suc (suc (suc (suc (suc q))))) e = absurd (omega (arith, k .whole, k .least, k .most))
 
 -- A context is of the key that it holds.
 pub context-key : {key ctx : List ℕ} → Context key ctx → keyOf ctx ≡ key

@@ -1,5 +1,3 @@
-pub mod Entries
-pub mod SBox
 pub mod Words
 pub mod Columns
 pub mod Expansion

@@ -5,7 +5,7 @@ use Prim.Native.Nat.{ℕ, zero, suc, _+_, _*_, _-_, _/_, _%_, _^_, _≤_, _<_}
 use native.Mathlib.Nat.{zero-mul, one-mul}
 use native.Mathlib.Omega.{arith}
 use lib.Bits.{bitXor, xor-zero-l, xor-zero-r, xor-lt, xor-block}
-use Rattle.aes.specs.Field.{xTimes, products, mul, affineBit, affineBits, sBox}
+use Rattle.aes_tables.specs.Field.{xTimes, products, mul, affineBit, affineBits, sBox}
 use Rattle.aes.specs.Aes.{word, byte}
 
 pub mul-two : (b : ℕ) → mul 2 b ≡ xTimes b

@@ -1,3 +1,2 @@
-pub mod Field
 pub mod Aes
-pub mod Context
+pub mod inner

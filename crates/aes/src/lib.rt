@@ -5,10 +5,10 @@
 ghost use mathlib.Core.Path.{_≡_};
 ghost use mathlib.Core.List.{_++_};
 ghost use Prim.Native.Nat.{_+_, _*_, _≤_, _<_};
-ghost use lib.ListN.{length, getD, take, drop};
+ghost use lib.ListN.{length, drop};
 ghost use Rattle.octets.specs.Octets.{bytes, pasted};
-ghost use Rattle.aes.specs.Aes.{KeySize, blockSize, maxRounds, addRoundKey, mixColumns, shiftRows, subBytes, rounds, encryptState, stateOf, blockOf, encrypt};
-ghost use Rattle.aes.specs.Context.{size, entries, Table, Context, Ready, keyOf, listOf};
+ghost use Rattle.aes.specs.Aes.{KeySize, blockSize, addRoundKey, mixColumns, shiftRows, subBytes, rounds, encryptState, stateOf, blockOf, encrypt};
+ghost use Rattle.aes.specs.inner.Context.{maxRounds, size, entries, Table, Context, Ready, keyOf, listOf};
 
 mod schedule;
 mod table;

@@ -2,26 +2,16 @@
 use crate::Context;
 ghost use mathlib.Core.Path.{_≡_};
 ghost use Prim.Native.Nat.{_+_, _*_, _-_, _/_, _%_, _≤_, _<_};
-ghost use lib.ListN.{length, getD, take};
-ghost use Rattle.aes.specs.Aes.{KeySize, Nk, Nr, rcon, RconTable, rotWord, subWord, transformed, nextWord, keyExpansion};
-ghost use Rattle.aes.specs.Context.{entries, Table, Filled};
-
-// FIPS 197 §5.2, Table 5: the first bytes of the round constants.
-const RCON: [u8; 10] = [0x01, 0x02, 0x04, 0x08, 0x10, 0x20, 0x40, 0x80, 0x1b, 0x36];
-
-// The table as an array, of which each entry is a power of x.
-fn constants() -> [u8; 10]
-    ensures { λ r. ⌜ RconTable r ⌝ }
-{
-    RCON
-}
+ghost use lib.ListN.{length, take};
+ghost use Rattle.aes.specs.Aes.{KeySize, Nk, Nr, rcon, transformed, nextWord};
+ghost use Rattle.aes.specs.inner.Context.{entries, Table, Filled};
 
 // Round constant j.
 fn round_constant(j: usize) -> u32
     requires { ⌜ (1 ≤ j) × (j ≤ 10) ⌝ }
     ensures { λ r. ⌜ r ≡ rcon j ⌝ }
 {
-    let r = constants();
+    let r = aes_tables::round_constants();
     r[j - 1] as u32 * 0x100_0000
 }
 

@@ -1,20 +1,20 @@
 -- What the crates above cite of counter mode and GCM.
 -- Assumes nothing.
-use mathlib.Core.Path.{_≡_, refl, ap, sym, _∙_, subst}
-use mathlib.Core.List.{List, [], _++_}
-use Prim.Native.Nat.{ℕ, zero, suc, _+_, _*_, _%_, _^_, _≤_, _<_}
-use native.Mathlib.Nat.{zero-mul, one-mul, mod-eq-of-lt}
+use mathlib.Core.Path.{_≡_, ap, sym, _∙_}
+use mathlib.Core.List.{List}
+use Prim.Native.Nat.{ℕ, zero, suc, _+_, _≤_, _<_}
+use native.Mathlib.Nat.{mod-eq-of-lt}
 use native.Mathlib.Omega.{arith}
-use lib.Bits.{bitXor, xor-zero-l, xor-zero-r}
 use lib.ListN.{length, take, drop, length-append}
 use lib.Seq.{take-at, drop-at}
 use Rattle.octets.specs.Octets.{Octets, number, bytes, xors}
 use Rattle.octets.proofs.Laws.{bytes-length, bytes-octets, number-bytes, octets-append, xors-length, xors-octets, xors-twice}
-use Rattle.aes.specs.Aes.{encrypt}
+use Rattle.aes.specs.Aes.{encrypt, blocks}
 use Rattle.aes.proofs.Laws.{encrypt-octets}
-use Rattle.gcm.specs.Counter.{counterBlock, counts, blocks, keyStream, ctr}
-use Rattle.gcm.specs.Ghash.{sum, HashKey, hashKeyOf}
-use Rattle.gcm.specs.Gcm.{maxBytes, gcmTag, gcmCiphertext, gcmEncrypt}
+use Rattle.gcm.specs.Counter.{counterBlock, keyStream, ctr}
+use Rattle.gcm.specs.inner.Limits.{counts}
+use Rattle.gcm.specs.Gcm.{gcmTag, gcmCiphertext, gcmEncrypt}
+use Rattle.gcm.specs.inner.Limits.{maxBytes}
 
 -- ---- Counter blocks
 
@@ -111,16 +111,3 @@ module _ (key nonce aad l : List ℕ) where
   pub gcm-rest : drop (length l) (gcmEncrypt key nonce aad l) ≡ gcmTag key nonce aad (gcmCiphertext key nonce l)
   unfolding gcmEncrypt
   gcm-rest = drop-at (gcmCiphertext key nonce l) _ (length l) (ciphertext-length key nonce l)
-
--- ---- The context of a hash key
-
--- The table's entry for the highest of four bits is the hash key.
-sum-eight : (h : ℕ) → sum 4 8 h ≡ h
-unfolding sum
-sum-eight h = simp (zero-mul, one-mul, xor-zero-l, xor-zero-r)
-
-pub hash-key-of : {h : ℕ} {t : List ℕ} → HashKey h t → hashKeyOf t ≡ h
-hash-key-of {h} {t} k = k .entry 8 (omega arith) ∙ sum-eight h
-
-pub hash-key-ready : {h : ℕ} {t : List ℕ} → HashKey h t → HashKey (hashKeyOf t) t
-hash-key-ready {h} {t} k = subst (λ (x : ℕ). HashKey x t) (sym (hash-key-of k)) k

@@ -1,5 +1,3 @@
-pub mod Streams
-pub mod Products
-pub mod Absorbing
+mod Streams
 pub mod Laws
-pub mod Tags
+mod Tags

@@ -13,9 +13,9 @@ use lib.Pow.{pow-add}
 use lib.Seq.{drop-append-le, drop-at, take-at, take-add, take-all, drop-drop, length-take-le}
 use Rattle.octets.specs.Octets.{Octets, number, bytes, xors}
 use Rattle.octets.proofs.Laws.{number-append, number-bytes, bytes-length, xors-length}
-use Rattle.aes.specs.Aes.{stateOf, blockOf, encryptState, encrypt}
+use Rattle.aes.specs.Aes.{stateOf, blockOf, encryptState, encrypt, blocks}
 use Rattle.aes.proofs.Laws.{encrypt-length, block-length, block-state}
-use Rattle.gcm.specs.Counter.{counterBlock, blocks, keyStream, ctr}
+use Rattle.gcm.specs.Counter.{counterBlock, keyStream, ctr}
 
 -- XOR of strings that are joined in the same place.
 pub xors-append : (a b k l : List ℕ) → length a ≡ length k → xors (a ++ b) (k ++ l) ≡ xors a k ++ xors b l

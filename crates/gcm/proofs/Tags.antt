@@ -1,21 +1,20 @@
 -- Laws of the hash key and of the tag.
 -- Assumes nothing.
-use mathlib.Core.Path.{_≡_, refl, ap, sym, _∙_, subst}
-use mathlib.Core.List.{List, [], _∷_, _++_, append-nil}
-use Prim.Native.Nat.{ℕ, _+_, _*_, _-_, _/_, _%_, _^_, _≤_, _<_}
-use native.Mathlib.Nat.{zero-add}
+use mathlib.Core.Path.{_≡_, ap, sym, _∙_, subst}
+use mathlib.Core.List.{List, [], _++_, append-nil}
+use Prim.Native.Nat.{ℕ, _+_, _*_, _-_}
 use native.Mathlib.Omega.{arith}
 use borrow.Rule.Slice.PartMut.{putMid}
 use lib.Bits.{bitXor}
 use lib.ListN.{length, drop, take, replicate, length-append, length-drop, drop-of-length-le}
-use lib.Pow.{high, low}
-use Rattle.octets.specs.Octets.{number, bytes, pasted, xors}
-use lib.Seq.{take-at, drop-at, take-all, length-take-le}
-use Rattle.octets.proofs.Laws.{number-append, bytes-length, bytes-add, bytes-mod, lent-bytes, pasted-append, pasted-front}
+use Rattle.octets.specs.Octets.{number, bytes, xors}
+use lib.Seq.{take-at, drop-at, take-all}
+use Rattle.octets.proofs.Laws.{number-append}
 use Rattle.aes.specs.Aes.{encrypt}
 use Rattle.aes.proofs.Laws.{encrypt-length}
 use Rattle.gcm.specs.Counter.{counterBlock, ctr}
-use Rattle.gcm.specs.Ghash.{product, absorb, pair, HashKey}
+use Rattle.ghash.specs.Ghash.{product, absorb, pair}
+use Rattle.ghash.specs.inner.HashKey.{HashKey}
 use Rattle.gcm.specs.Gcm.{hashKey, hash, gcmTag, gcmCiphertext, gcmEncrypt}
 use Rattle.gcm.proofs.Laws.{tag-length}
 
@@ -33,25 +32,6 @@ hashed h a b c u y s r e f g k =
     let m : (length a + length b) * 8 ≡ 8 * length (a ++ b) = rw length-append (omega arith) in
     let n : length c * 8 ≡ 8 * length c = omega arith in
     k ∙ rw (g, f, e, append-nil c, m, n)
-
--- A block written in two halves.
-pub stored-block : (l o p : List ℕ) (hi lo : ℕ) → 16 ≤ length l → lo < 2 ^ 64 → o ≡ bytes 8 hi ++ drop 8 l
-    → p ≡ bytes 8 lo ++ drop 8 (take (length o - 8) (drop 8 o)) → putMid 8 (length o - 8) o p ≡ bytes 16 (pair hi lo) ++ drop 16 l
-stored-block l o p hi lo h k e f =
-    let a = bytes 8 hi in
-    let b = bytes 8 lo in
-    let la : length a ≡ 8 = bytes-length 8 hi in
-    let lb : length b ≡ 8 = bytes-length 8 lo in
-    let n : length o ≡ length l = ap length e ∙ simp (length-append, length-drop) (omega arith) in
-    let q : o ≡ pasted l 0 a = e ∙ sym (pasted-front l a ∙ ap (λ (x : ℕ). a ++ drop x l) la) in
-    let m : length (a ++ b) ≡ 16 = length-append a b ∙ rw (la, lb) in
-    let w : bytes 16 (pair hi lo) ≡ a ++ b =
-    bytes-add 8 8 (pair hi lo) ∙ rw (high hi 64 k, ← bytes-mod 8 (pair hi lo), low hi 64 k) in
-    lent-bytes o p 8 8 lo (omega arith) f
-    ∙ ap (λ (x : List ℕ). pasted x 8 b) q
-    ∙ ap (λ (x : ℕ). pasted (pasted l 0 a) x b) (sym (zero-add (length a) ∙ la))
-    ∙ pasted-append l 0 a b (omega arith)
-    ∙ pasted-front l (a ++ b) ∙ rw (m, w)
 
 pub tagged : (key nonce aad c s o : List ℕ) (y : ℕ) → y ≡ hash (hashKey key) aad c → s ≡ bytes 16 y ++ drop 16 (replicate 16 0)
     → o ≡ xors s (encrypt key (counterBlock nonce 1)) → o ≡ gcmTag key nonce aad c

@@ -2,10 +2,10 @@
 -- and GCM (SP 800-38D §6.5) both have them.
 -- Assumes nothing.
 use mathlib.Core.List.{List, [], _++_}
-use Prim.Native.Nat.{ℕ, zero, suc, _+_, _-_, _/_, _^_}
+use Prim.Native.Nat.{ℕ, zero, suc, _+_}
 use lib.ListN.{length}
 use Rattle.octets.specs.Octets.{bytes, xors}
-use Rattle.aes.specs.Aes.{blockSize, encrypt}
+use Rattle.aes.specs.Aes.{blocks, encrypt}
 
 -- The bytes of a nonce.
 abbrev pub nonceSize : ℕ
@@ -15,19 +15,11 @@ nonceSize = 12
 unfoldable pub counterBlock : List ℕ → ℕ → List ℕ
 counterBlock nonce count = nonce ++ bytes 4 count
 
--- How many block counts there are.
-abbrev pub counts : ℕ
-counts = 2 ^ 32
-
--- How many blocks n bytes take, the last one counted whole.
-abbrev pub blocks : ℕ → ℕ
-blocks n = (n + (blockSize - 1)) / blockSize
-
 -- The key stream: n encrypted counter blocks, from the given block count on.
-unfoldable pub keyStream : List ℕ → List ℕ → ℕ → ℕ → List ℕ
+unfoldable pub keyStream : (key nonce : List ℕ) (count n : ℕ) → List ℕ
 keyStream key nonce count zero = []
 keyStream key nonce count (suc n) = keyStream key nonce count n ++ encrypt key (counterBlock nonce (count + n))
 
 -- Encryption and decryption: the bytes XOR the key stream from the given block count on.
-unfoldable pub ctr : List ℕ → List ℕ → ℕ → List ℕ → List ℕ
+unfoldable pub ctr : (key nonce : List ℕ) (count : ℕ) (l : List ℕ) → List ℕ
 ctr key nonce count l = xors l (keyStream key nonce count (blocks (length l)))

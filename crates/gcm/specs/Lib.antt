@@ -1,3 +1,3 @@
 pub mod Counter
-pub mod Ghash
 pub mod Gcm
+pub mod inner

@@ -1,13 +1,13 @@
 // Counter mode over AES: a key stream of encrypted counter blocks, XORed with the data.
 use aes::BLOCK;
 ghost use mathlib.Core.Path.{_≡_};
-ghost use mathlib.Core.List.{_++_};
 ghost use Prim.Native.Nat.{_+_, _≤_, _<_, min};
 ghost use lib.ListN.{length};
 ghost use Rattle.octets.specs.Octets.{xors};
-ghost use Rattle.aes.specs.Aes.{blockSize, stateOf, blockOf, encryptState, encrypt};
-ghost use Rattle.aes.specs.Context.{Ready, keyOf, listOf};
-ghost use Rattle.gcm.specs.Counter.{nonceSize, counterBlock, counts, blocks, ctr};
+ghost use Rattle.aes.specs.Aes.{blockSize, stateOf, blockOf, encrypt, blocks};
+ghost use Rattle.aes.specs.inner.Context.{Ready, keyOf, listOf};
+ghost use Rattle.gcm.specs.Counter.{nonceSize, counterBlock, ctr};
+ghost use Rattle.gcm.specs.inner.Limits.{counts};
 
 // The counter block of a nonce and a block count.
 fn block(nonce: &[u8], count: u32) -> aes::State

@@ -1,19 +1,19 @@
-// Counter mode, GHASH and GCM (SP 800-38D) over AES, for a nonce of 12 bytes and a tag of 16.
+// Counter mode and GCM (SP 800-38D) over AES, for a nonce of 12 bytes and a tag of 16.
 //
 // The associated data are given in two parts and hashed one after the other. A GCM key is an AES context and the
 // context of its hash key.
 use aes::BLOCK;
 ghost use mathlib.Core.Path.{_≡_};
 ghost use mathlib.Core.List.{_++_};
-ghost use Prim.Native.Nat.{_+_, _*_, _≤_, _<_};
+ghost use Prim.Native.Nat.{_+_, _*_, _≤_};
 ghost use lib.ListN.{length};
-ghost use Rattle.aes.specs.Context.{Ready, keyOf};
+ghost use Rattle.aes.specs.inner.Context.{Ready, keyOf};
 ghost use Rattle.gcm.specs.Counter.{nonceSize};
-ghost use Rattle.gcm.specs.Ghash.{valueOf, HashKey, hashKeyOf};
-ghost use Rattle.gcm.specs.Gcm.{hashKey, hash, gcmTag, gcmEncrypt, tagSize, maxBytes};
+ghost use Rattle.ghash.specs.inner.HashKey.{valueOf, HashKey, hashKeyOf};
+ghost use Rattle.gcm.specs.Gcm.{hashKey, hash, gcmTag, gcmEncrypt, tagSize};
+ghost use Rattle.gcm.specs.inner.Limits.{maxBytes};
 
 pub mod counter;
-pub mod ghash;
 
 // The bytes of a tag.
 pub const TAG: usize = BLOCK;

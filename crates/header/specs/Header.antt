@@ -48,7 +48,7 @@ pub record Writing : Type 0 where
   pub answer : Written
   pub room : List ℕ
 
-unfoldable pub writeHeader : ℕ → ℕ → List ℕ → Writing
+unfoldable pub writeHeader : (kid ctr : ℕ) (out : List ℕ) → Writing
 writeHeader kid ctr out =
     let h = header kid ctr in
     pick (leb (length h) (length out))
@@ -64,16 +64,16 @@ readBytes n l =
     pick (leb n (length l)) (pick (both (leb 8 v) (eqb (size v) n)) (Value v n) Refused) Refused
 
 -- A field with flag x and three bits k: k itself, or the next k + 1 bytes.
-unfoldable pub readField : ℕ → ℕ → List ℕ → Field
+unfoldable pub readField : (x k : ℕ) (l : List ℕ) → Field
 readField x k l = pick (eqb x 0) (Value k 0) (readBytes (k + 1) l)
 
 -- The header of a KID that took a bytes and of the CTR that was read after it.
-unfoldable pub withCounter : ℕ → ℕ → Field → Reading
+unfoldable pub withCounter : (kid a : ℕ) (counter : Field) → Reading
 withCounter kid a Refused = Invalid
 withCounter kid a (Value ctr c) = Header (record { 0 = kid }) (record { 0 = ctr }) (1 + a + c)
 
 -- The CTR of the config byte b, after the KID that was read at the front of l.
-unfoldable pub readCounter : ℕ → List ℕ → Field → Reading
+unfoldable pub readCounter : (b : ℕ) (l : List ℕ) (kid : Field) → Reading
 readCounter b l Refused = Invalid
 readCounter b l (Value kid a) = withCounter kid a (readField (b / 8 % 2) (b % 8) (drop a l))
 

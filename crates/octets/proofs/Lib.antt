@@ -1,3 +1,4 @@
 pub mod Bits
 pub mod Laws
 mod Loops
+pub mod Entries

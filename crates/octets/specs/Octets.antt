@@ -3,6 +3,8 @@
 use mathlib.Core.Bool.{Bool, true, false}
 use mathlib.Core.List.{List, [], _∷_, _++_}
 use Prim.Native.Nat.{ℕ, zero, suc, _+_, _*_, _/_, _%_, _^_, _<_}
+use Prim.Native.Char.{code}
+use Prim.Native.String as Text
 use lib.Bits.{bitXor}
 use lib.Dec.{eqb}
 use lib.ListN.{length, getD, take, drop}
@@ -22,7 +24,7 @@ bytes zero x = []
 bytes (suc n) x = (x / 256 ^ n % 256) ∷ bytes n x
 
 -- l with x written over it from index i on.
-unfoldable pub pasted : List ℕ → ℕ → List ℕ → List ℕ
+unfoldable pub pasted : (l : List ℕ) (i : ℕ) (x : List ℕ) → List ℕ
 pasted l i x = take i l ++ (x ++ drop (i + length x) l)
 
 -- x XOR y, byte by byte, as long as x; y counts as zero past its end.
@@ -30,8 +32,13 @@ unfoldable pub xors : List ℕ → List ℕ → List ℕ
 xors [] y = []
 xors (a ∷ x) y = bitXor a (getD y 0 0) ∷ xors x (drop 1 y)
 
+-- The ASCII codes of a text.
+abbrev pub ascii : Text.String → List ℕ
+ascii Text.[] = []
+ascii (Text._∷_ c s) = code c ∷ ascii s
+
 -- a where the test holds, else b.
-abbrev pub pick : {A : Type 0} → Bool → A → A → A
+abbrev pub pick : {A : Type 0} → (test : Bool) (a b : A) → A
 pick true a b = a
 pick false a b = b
 

@@ -1,33 +1,29 @@
 // AES, counter mode, GHASH and GCM. Each function judges its input: it answers 0 and writes its result to the front of
 // out, or it answers 1 and changes nothing.
 ghost use mathlib.Core.Path.{_≡_};
-ghost use mathlib.Core.List.{[], _++_};
-ghost use mathlib.Core.Logic.{_⊎_};
+ghost use mathlib.Core.List.{_++_};
 ghost use Prim.Native.Nat.{_+_};
 ghost use lib.ListN.{length, drop};
 ghost use Rattle.octets.specs.Octets.{number, bytes};
 ghost use Rattle.aes.specs.Aes.{encrypt};
 ghost use Rattle.gcm.specs.Counter.{ctr};
-ghost use Rattle.gcm.specs.Ghash.{absorb};
+ghost use Rattle.ghash.specs.Ghash.{absorb};
 ghost use Rattle.gcm.specs.Gcm.{gcmTag, gcmEncrypt};
+ghost use Rattle.sframe_test.specs.Judged.{Judged, AesTakes, CtrTakes, GhashTakes, GcmTakes};
+use crate::judge::MAX_BYTES;
+use crate::judge::NN;
+use crate::judge::key_taken;
+use crate::judge::parts_taken;
 
-// The longest input that GCM takes, part by part, and the last block count that an input of that length may start at.
-const MAX_BYTES: usize = 65536;
-
+// The last block count that the longest input may start at.
 const LAST_COUNT: u32 = 0xffff_0000;
 
 // AES encryption of a block of 16 bytes, under a key of 16 or 32.
 #[no_mangle]
 pub extern "C" fn sframe_test_aes(key: &[u8], block: &[u8], out: &mut [u8]) -> u32
-    ensures { λ r. ⌜ ((r ≡ 0) × (now (out .exit) ≡ encrypt (now (key .entry)) (now (block .entry)) ++ drop 16 (now (out .entry)))) ⊎ ((r ≡ 1) × (now (out .exit) ≡ now (out .entry))) ⌝ }
+    ensures { λ r. ⌜ Judged 0 (AesTakes (now (key .entry)) (now (block .entry)) (now (out .entry))) (now (out .exit) ≡ encrypt (now (key .entry)) (now (block .entry)) ++ drop 16 (now (out .entry))) (now (out .exit) ≡ now (out .entry)) r ⌝ }
 {
-    if key.len() % 16 != 0 {
-        return 1;
-    }
-    if key.len() < 16 {
-        return 1;
-    }
-    if 32 < key.len() {
+    if !key_taken(key) {
         return 1;
     }
     if block.len() != 16 {
@@ -50,18 +46,12 @@ pub extern "C" fn sframe_test_ctr(
     input: &[u8],
     out: &mut [u8],
 ) -> u32
-    ensures { λ r. ⌜ ((r ≡ 0) × (now (out .exit) ≡ ctr (now (key .entry)) (now (nonce .entry)) count (now (input .entry)) ++ drop (length (now (input .entry))) (now (out .entry)))) ⊎ ((r ≡ 1) × (now (out .exit) ≡ now (out .entry))) ⌝ }
+    ensures { λ r. ⌜ Judged 0 (CtrTakes (now (key .entry)) (now (nonce .entry)) count (now (input .entry)) (now (out .entry))) (now (out .exit) ≡ ctr (now (key .entry)) (now (nonce .entry)) count (now (input .entry)) ++ drop (length (now (input .entry))) (now (out .entry))) (now (out .exit) ≡ now (out .entry)) r ⌝ }
 {
-    if key.len() % 16 != 0 {
+    if !key_taken(key) {
         return 1;
     }
-    if key.len() < 16 {
-        return 1;
-    }
-    if 32 < key.len() {
-        return 1;
-    }
-    if nonce.len() != 12 {
+    if nonce.len() != NN {
         return 1;
     }
     if MAX_BYTES < input.len() {
@@ -82,7 +72,7 @@ pub extern "C" fn sframe_test_ctr(
 // GHASH under a hash key of 16 bytes, over the data filled up with zeros to whole blocks.
 #[no_mangle]
 pub extern "C" fn sframe_test_ghash(key: &[u8], input: &[u8], out: &mut [u8]) -> u32
-    ensures { λ r. ⌜ ((r ≡ 0) × (now (out .exit) ≡ bytes 16 (absorb (number 16 (now (key .entry))) 0 (now (input .entry))) ++ drop 16 (now (out .entry)))) ⊎ ((r ≡ 1) × (now (out .exit) ≡ now (out .entry))) ⌝ }
+    ensures { λ r. ⌜ Judged 0 (GhashTakes (now (key .entry)) (now (input .entry)) (now (out .entry))) (now (out .exit) ≡ bytes 16 (absorb (number 16 (now (key .entry))) 0 (now (input .entry))) ++ drop 16 (now (out .entry))) (now (out .exit) ≡ now (out .entry)) r ⌝ }
 {
     if key.len() != 16 {
         return 1;
@@ -93,9 +83,9 @@ pub extern "C" fn sframe_test_ghash(key: &[u8], input: &[u8], out: &mut [u8]) ->
     if out.len() < 16 {
         return 1;
     }
-    let t = gcm::ghash::expand(gcm::ghash::load(key));
-    let y = gcm::ghash::absorb(&t, gcm::ghash::Block { hi: 0, lo: 0 }, input, &input[..0]);
-    gcm::ghash::store(out, y);
+    let t = ghash::expand(ghash::load(key));
+    let y = ghash::absorb(&t, ghash::Block { hi: 0, lo: 0 }, input, &input[..0]);
+    ghash::store(out, y);
     0
 }
 
@@ -109,27 +99,12 @@ pub extern "C" fn sframe_test_gcm_seal(
     plaintext: &[u8],
     out: &mut [u8],
 ) -> u32
-    ensures { λ r. ⌜ ((r ≡ 0) × (now (out .exit) ≡ gcmEncrypt (now (key .entry)) (now (nonce .entry)) (now (header .entry) ++ now (metadata .entry)) (now (plaintext .entry)) ++ drop (length (now (plaintext .entry)) + 16) (now (out .entry)))) ⊎ ((r ≡ 1) × (now (out .exit) ≡ now (out .entry))) ⌝ }
+    ensures { λ r. ⌜ Judged 0 (GcmTakes (length (now (plaintext .entry)) + 16) (now (key .entry)) (now (nonce .entry)) (now (header .entry)) (now (metadata .entry)) (now (plaintext .entry)) (now (out .entry))) (now (out .exit) ≡ gcmEncrypt (now (key .entry)) (now (nonce .entry)) (now (header .entry) ++ now (metadata .entry)) (now (plaintext .entry)) ++ drop (length (now (plaintext .entry)) + 16) (now (out .entry))) (now (out .exit) ≡ now (out .entry)) r ⌝ }
 {
-    if key.len() % 16 != 0 {
+    if !key_taken(key) {
         return 1;
     }
-    if key.len() < 16 {
-        return 1;
-    }
-    if 32 < key.len() {
-        return 1;
-    }
-    if nonce.len() != 12 {
-        return 1;
-    }
-    if MAX_BYTES < header.len() {
-        return 1;
-    }
-    if MAX_BYTES < metadata.len() {
-        return 1;
-    }
-    if MAX_BYTES < plaintext.len() {
+    if !parts_taken(nonce, header, metadata, plaintext) {
         return 1;
     }
     let n = plaintext.len() + 16;
@@ -152,27 +127,12 @@ pub extern "C" fn sframe_test_gcm_tag(
     ciphertext: &[u8],
     out: &mut [u8],
 ) -> u32
-    ensures { λ r. ⌜ ((r ≡ 0) × (now (out .exit) ≡ gcmTag (now (key .entry)) (now (nonce .entry)) (now (header .entry) ++ now (metadata .entry)) (now (ciphertext .entry)) ++ drop 16 (now (out .entry)))) ⊎ ((r ≡ 1) × (now (out .exit) ≡ now (out .entry))) ⌝ }
+    ensures { λ r. ⌜ Judged 0 (GcmTakes 16 (now (key .entry)) (now (nonce .entry)) (now (header .entry)) (now (metadata .entry)) (now (ciphertext .entry)) (now (out .entry))) (now (out .exit) ≡ gcmTag (now (key .entry)) (now (nonce .entry)) (now (header .entry) ++ now (metadata .entry)) (now (ciphertext .entry)) ++ drop 16 (now (out .entry))) (now (out .exit) ≡ now (out .entry)) r ⌝ }
 {
-    if key.len() % 16 != 0 {
+    if !key_taken(key) {
         return 1;
     }
-    if key.len() < 16 {
-        return 1;
-    }
-    if 32 < key.len() {
-        return 1;
-    }
-    if nonce.len() != 12 {
-        return 1;
-    }
-    if MAX_BYTES < header.len() {
-        return 1;
-    }
-    if MAX_BYTES < metadata.len() {
-        return 1;
-    }
-    if MAX_BYTES < ciphertext.len() {
+    if !parts_taken(nonce, header, metadata, ciphertext) {
         return 1;
     }
     if out.len() < 16 {

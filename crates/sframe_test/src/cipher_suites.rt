@@ -1,33 +1,27 @@
 // The suites: key derivation, encryption and decryption. Each function judges its input: it answers 0 with its results
 // written, or it answers 1, or 13 for a tag that differs, and changes nothing.
 ghost use mathlib.Core.Path.{_≡_};
-ghost use mathlib.Core.Bool.{true};
 ghost use mathlib.Core.List.{_++_};
-ghost use mathlib.Core.Logic.{_⊎_};
-ghost use Rattle.suites.specs.declared.sizes.Suite.{Suite};
-ghost use Rattle.suites.specs.declared.sizes.Found.the-variants.{Known};
+ghost use Rattle.octets.specs.Octets.{pick};
 ghost use Rattle.suites.specs.Suites.{suiteOf};
 ghost use Rattle.suites.specs.Derivation.{sframeKey, sframeSalt};
-ghost use Rattle.suites.specs.Aead.{encrypt, decrypt, differs, isPlain, roomAfter};
+ghost use Rattle.suites.specs.Aead.{encrypt, decrypt, isPlain, roomAfter};
+ghost use Rattle.sframe_test.specs.Judged.{Judged, For, DeriveTakes, EncryptTakes, DecryptTakes};
+use crate::judge::NN;
+use crate::judge::parts_taken;
 use header::Kid;
 use suites::Found;
 use suites::Suite;
-use suites::sizes::Aes128CtrHmacSha256Tag80;
 
-// The longest base key, and the longest of each other input.
+// The longest base key.
 const MAX_BASE: usize = 64;
-
-const MAX_BYTES: usize = 65536;
-
-// The bytes of a salt and of a nonce.
-const NN: usize = Aes128CtrHmacSha256Tag80::NN;
 
 // The answer for a tag that differs.
 const TAG_DIFFERS: u32 = 13;
 
 // Derivation for a known suite.
 fn derive_known(suite: Suite, base: &[u8], kid: u64, key: &mut [u8], salt: &mut [u8]) -> u32
-    ensures { λ r. ⌜ ((r ≡ 0) × (now (key .exit) ≡ sframeKey suite (now (base .entry)) kid) × (now (salt .exit) ≡ sframeSalt suite (now (base .entry)) kid)) ⊎ ((r ≡ 1) × (now (key .exit) ≡ now (key .entry)) × (now (salt .exit) ≡ now (salt .entry))) ⌝ }
+    ensures { λ r. ⌜ Judged 0 (DeriveTakes suite (now (base .entry)) (now (key .entry)) (now (salt .entry))) ((now (key .exit) ≡ sframeKey suite (now (base .entry)) kid) × (now (salt .exit) ≡ sframeSalt suite (now (base .entry)) kid)) ((now (key .exit) ≡ now (key .entry)) × (now (salt .exit) ≡ now (salt .entry))) r ⌝ }
 {
     if MAX_BASE < base.len() {
         return 1;
@@ -52,7 +46,7 @@ pub extern "C" fn sframe_test_derive(
     key: &mut [u8],
     salt: &mut [u8],
 ) -> u32
-    ensures { λ r. ⌜ ((r ≡ 0) × ((s : Suite) × (suiteOf suite ≡ Known s) × (now (key .exit) ≡ sframeKey s (now (base .entry)) kid) × (now (salt .exit) ≡ sframeSalt s (now (base .entry)) kid))) ⊎ ((r ≡ 1) × (now (key .exit) ≡ now (key .entry)) × (now (salt .exit) ≡ now (salt .entry))) ⌝ }
+    ensures { λ r. ⌜ For (suiteOf suite) (λ s. Judged 0 (DeriveTakes s (now (base .entry)) (now (key .entry)) (now (salt .entry))) ((now (key .exit) ≡ sframeKey s (now (base .entry)) kid) × (now (salt .exit) ≡ sframeSalt s (now (base .entry)) kid)) ((now (key .exit) ≡ now (key .entry)) × (now (salt .exit) ≡ now (salt .entry))) r) ((r ≡ 1) × (now (key .exit) ≡ now (key .entry)) × (now (salt .exit) ≡ now (salt .entry))) ⌝ }
 {
     match suites::sizes::find(suite) {
         Found::Known(s) => derive_known(s, base, kid, key, salt),
@@ -70,21 +64,12 @@ fn encrypt_known(
     plaintext: &[u8],
     out: &mut [u8],
 ) -> u32
-    ensures { λ r. ⌜ ((r ≡ 0) × (now (out .exit) ≡ encrypt suite (now (key .entry)) (now (nonce .entry)) (now (header .entry) ++ now (metadata .entry)) (now (plaintext .entry)))) ⊎ ((r ≡ 1) × (now (out .exit) ≡ now (out .entry))) ⌝ }
+    ensures { λ r. ⌜ Judged 0 (EncryptTakes suite (now (key .entry)) (now (nonce .entry)) (now (header .entry)) (now (metadata .entry)) (now (plaintext .entry)) (now (out .entry))) (now (out .exit) ≡ encrypt suite (now (key .entry)) (now (nonce .entry)) (now (header .entry) ++ now (metadata .entry)) (now (plaintext .entry))) (now (out .exit) ≡ now (out .entry)) r ⌝ }
 {
     if key.len() != suite.key_size() {
         return 1;
     }
-    if nonce.len() != NN {
-        return 1;
-    }
-    if MAX_BYTES < header.len() {
-        return 1;
-    }
-    if MAX_BYTES < metadata.len() {
-        return 1;
-    }
-    if MAX_BYTES < plaintext.len() {
+    if !parts_taken(nonce, header, metadata, plaintext) {
         return 1;
     }
     let nt = suite.tag_size();
@@ -109,7 +94,7 @@ pub extern "C" fn sframe_test_suite_encrypt(
     plaintext: &[u8],
     out: &mut [u8],
 ) -> u32
-    ensures { λ r. ⌜ ((r ≡ 0) × ((s : Suite) × (suiteOf suite ≡ Known s) × (now (out .exit) ≡ encrypt s (now (key .entry)) (now (nonce .entry)) (now (header .entry) ++ now (metadata .entry)) (now (plaintext .entry))))) ⊎ ((r ≡ 1) × (now (out .exit) ≡ now (out .entry))) ⌝ }
+    ensures { λ r. ⌜ For (suiteOf suite) (λ s. Judged 0 (EncryptTakes s (now (key .entry)) (now (nonce .entry)) (now (header .entry)) (now (metadata .entry)) (now (plaintext .entry)) (now (out .entry))) (now (out .exit) ≡ encrypt s (now (key .entry)) (now (nonce .entry)) (now (header .entry) ++ now (metadata .entry)) (now (plaintext .entry))) (now (out .exit) ≡ now (out .entry)) r) ((r ≡ 1) × (now (out .exit) ≡ now (out .entry))) ⌝ }
 {
     match suites::sizes::find(suite) {
         Found::Known(s) => encrypt_known(s, key, nonce, header, metadata, plaintext, out),
@@ -127,21 +112,12 @@ fn decrypt_known(
     sealed: &[u8],
     out: &mut [u8],
 ) -> u32
-    ensures { λ r. ⌜ ((r ≡ 0) × (isPlain (decrypt suite (now (key .entry)) (now (nonce .entry)) (now (header .entry) ++ now (metadata .entry)) (now (sealed .entry))) ≡ true) × (now (out .exit) ≡ roomAfter (decrypt suite (now (key .entry)) (now (nonce .entry)) (now (header .entry) ++ now (metadata .entry)) (now (sealed .entry))) (now (out .entry)))) ⊎ (((r ≡ 13) × (decrypt suite (now (key .entry)) (now (nonce .entry)) (now (header .entry) ++ now (metadata .entry)) (now (sealed .entry)) ≡ differs) × (now (out .exit) ≡ now (out .entry))) ⊎ ((r ≡ 1) × (now (out .exit) ≡ now (out .entry)))) ⌝ }
+    ensures { λ r. ⌜ Judged (pick (isPlain (decrypt suite (now (key .entry)) (now (nonce .entry)) (now (header .entry) ++ now (metadata .entry)) (now (sealed .entry)))) 0 13) (DecryptTakes suite (now (key .entry)) (now (nonce .entry)) (now (header .entry)) (now (metadata .entry)) (now (sealed .entry)) (now (out .entry))) (now (out .exit) ≡ roomAfter (decrypt suite (now (key .entry)) (now (nonce .entry)) (now (header .entry) ++ now (metadata .entry)) (now (sealed .entry))) (now (out .entry))) (now (out .exit) ≡ now (out .entry)) r ⌝ }
 {
     if key.len() != suite.key_size() {
         return 1;
     }
-    if nonce.len() != NN {
-        return 1;
-    }
-    if MAX_BYTES < header.len() {
-        return 1;
-    }
-    if MAX_BYTES < metadata.len() {
-        return 1;
-    }
-    if MAX_BYTES < sealed.len() {
+    if !parts_taken(nonce, header, metadata, sealed) {
         return 1;
     }
     let nt = suite.tag_size();
@@ -169,7 +145,7 @@ pub extern "C" fn sframe_test_suite_decrypt(
     sealed: &[u8],
     out: &mut [u8],
 ) -> u32
-    ensures { λ r. ⌜ ((r ≡ 0) × ((s : Suite) × (suiteOf suite ≡ Known s) × (isPlain (decrypt s (now (key .entry)) (now (nonce .entry)) (now (header .entry) ++ now (metadata .entry)) (now (sealed .entry))) ≡ true) × (now (out .exit) ≡ roomAfter (decrypt s (now (key .entry)) (now (nonce .entry)) (now (header .entry) ++ now (metadata .entry)) (now (sealed .entry))) (now (out .entry))))) ⊎ (((r ≡ 13) × ((s : Suite) × (suiteOf suite ≡ Known s) × (decrypt s (now (key .entry)) (now (nonce .entry)) (now (header .entry) ++ now (metadata .entry)) (now (sealed .entry)) ≡ differs)) × (now (out .exit) ≡ now (out .entry))) ⊎ ((r ≡ 1) × (now (out .exit) ≡ now (out .entry)))) ⌝ }
+    ensures { λ r. ⌜ For (suiteOf suite) (λ s. Judged (pick (isPlain (decrypt s (now (key .entry)) (now (nonce .entry)) (now (header .entry) ++ now (metadata .entry)) (now (sealed .entry)))) 0 13) (DecryptTakes s (now (key .entry)) (now (nonce .entry)) (now (header .entry)) (now (metadata .entry)) (now (sealed .entry)) (now (out .entry))) (now (out .exit) ≡ roomAfter (decrypt s (now (key .entry)) (now (nonce .entry)) (now (header .entry) ++ now (metadata .entry)) (now (sealed .entry))) (now (out .entry))) (now (out .exit) ≡ now (out .entry)) r) ((r ≡ 1) × (now (out .exit) ≡ now (out .entry))) ⌝ }
 {
     match suites::sizes::find(suite) {
         Found::Known(s) => decrypt_known(s, key, nonce, header, metadata, sealed, out),

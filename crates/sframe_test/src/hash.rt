@@ -22,6 +22,7 @@ ghost use Rattle.sha2.specs.Limits.{maximum};
 ghost use Rattle.hmac.specs.Hmac.{hmac};
 ghost use Rattle.hmac.specs.Hkdf.{extract, expand, limit};
 ghost use Rattle.hmac.specs.Limits.{largest};
+ghost use Rattle.sframe_test.specs.Judged.{Judged, HashTakes, HmacTakes, HkdfTakes};
 
 fn sha256_pieces(message: &[u8], first: usize, second: usize) -> [u8; 32]
     requires { ⌜ (first ≤ second) × (second ≤ length (now message)) × (length (now message) ≤ maximum) ⌝ }
@@ -48,7 +49,7 @@ pub extern "C" fn sframe_test_sha256(
     second: usize,
     digest: &mut [u8],
 ) -> u32
-    ensures { λ r. ⌜ (r ≤ 1) × (r ≡ 0 → now (digest .exit) ≡ hash sha256 (now (message .entry)) ++ drop 32 (now (digest .entry))) × (r ≡ 1 → now (digest .exit) ≡ now (digest .entry)) ⌝ }
+    ensures { λ r. ⌜ Judged 0 (HashTakes maximum 32 (now (message .entry)) first second (now (digest .entry))) (now (digest .exit) ≡ hash sha256 (now (message .entry)) ++ drop 32 (now (digest .entry))) (now (digest .exit) ≡ now (digest .entry)) r ⌝ }
 {
     if MAXIMUM < message.len() {
         return 1;
@@ -75,7 +76,7 @@ pub extern "C" fn sframe_test_hmac_sha256(
     second: usize,
     tag: &mut [u8],
 ) -> u32
-    ensures { λ r. ⌜ (r ≤ 1) × (r ≡ 0 → now (tag .exit) ≡ hmac sha256 (now (key .entry)) (now (message .entry)) ++ drop 32 (now (tag .entry))) × (r ≡ 1 → now (tag .exit) ≡ now (tag .entry)) ⌝ }
+    ensures { λ r. ⌜ Judged 0 (HmacTakes largest 32 (now (key .entry)) (now (message .entry)) first second (now (tag .entry))) (now (tag .exit) ≡ hmac sha256 (now (key .entry)) (now (message .entry)) ++ drop 32 (now (tag .entry))) (now (tag .exit) ≡ now (tag .entry)) r ⌝ }
 {
     if LARGEST < key.len() {
         return 1;
@@ -100,7 +101,7 @@ pub extern "C" fn sframe_test_hmac_sha256(
 // HKDF-Extract with no salt, then HKDF-Expand to out's length, which is at most 8160.
 #[no_mangle]
 pub extern "C" fn sframe_test_hkdf_sha256(ikm: &[u8], info: &[u8], out: &mut [u8]) -> u32
-    ensures { λ r. ⌜ (r ≤ 1) × (r ≡ 0 → now (out .exit) ≡ expand sha256 (extract sha256 [] (now (ikm .entry))) (now (info .entry)) (length (now (out .entry)))) × (r ≡ 1 → now (out .exit) ≡ now (out .entry)) ⌝ }
+    ensures { λ r. ⌜ Judged 0 (HkdfTakes largest (limit sha256) (now (ikm .entry)) (now (info .entry)) (now (out .entry))) (now (out .exit) ≡ expand sha256 (extract sha256 [] (now (ikm .entry))) (now (info .entry)) (length (now (out .entry)))) (now (out .exit) ≡ now (out .entry)) r ⌝ }
 {
     if LARGEST < ikm.len() {
         return 1;
@@ -141,7 +142,7 @@ pub extern "C" fn sframe_test_sha512(
     second: usize,
     digest: &mut [u8],
 ) -> u32
-    ensures { λ r. ⌜ (r ≤ 1) × (r ≡ 0 → now (digest .exit) ≡ hash sha512 (now (message .entry)) ++ drop 64 (now (digest .entry))) × (r ≡ 1 → now (digest .exit) ≡ now (digest .entry)) ⌝ }
+    ensures { λ r. ⌜ Judged 0 (HashTakes maximum 64 (now (message .entry)) first second (now (digest .entry))) (now (digest .exit) ≡ hash sha512 (now (message .entry)) ++ drop 64 (now (digest .entry))) (now (digest .exit) ≡ now (digest .entry)) r ⌝ }
 {
     if MAXIMUM < message.len() {
         return 1;
@@ -168,7 +169,7 @@ pub extern "C" fn sframe_test_hmac_sha512(
     second: usize,
     tag: &mut [u8],
 ) -> u32
-    ensures { λ r. ⌜ (r ≤ 1) × (r ≡ 0 → now (tag .exit) ≡ hmac sha512 (now (key .entry)) (now (message .entry)) ++ drop 64 (now (tag .entry))) × (r ≡ 1 → now (tag .exit) ≡ now (tag .entry)) ⌝ }
+    ensures { λ r. ⌜ Judged 0 (HmacTakes largest 64 (now (key .entry)) (now (message .entry)) first second (now (tag .entry))) (now (tag .exit) ≡ hmac sha512 (now (key .entry)) (now (message .entry)) ++ drop 64 (now (tag .entry))) (now (tag .exit) ≡ now (tag .entry)) r ⌝ }
 {
     if LARGEST < key.len() {
         return 1;
@@ -193,7 +194,7 @@ pub extern "C" fn sframe_test_hmac_sha512(
 // HKDF-Extract with no salt, then HKDF-Expand to out's length, which is at most 16320.
 #[no_mangle]
 pub extern "C" fn sframe_test_hkdf_sha512(ikm: &[u8], info: &[u8], out: &mut [u8]) -> u32
-    ensures { λ r. ⌜ (r ≤ 1) × (r ≡ 0 → now (out .exit) ≡ expand sha512 (extract sha512 [] (now (ikm .entry))) (now (info .entry)) (length (now (out .entry)))) × (r ≡ 1 → now (out .exit) ≡ now (out .entry)) ⌝ }
+    ensures { λ r. ⌜ Judged 0 (HkdfTakes largest (limit sha512) (now (ikm .entry)) (now (info .entry)) (now (out .entry))) (now (out .exit) ≡ expand sha512 (extract sha512 [] (now (ikm .entry))) (now (info .entry)) (length (now (out .entry)))) (now (out .exit) ≡ now (out .entry)) r ⌝ }
 {
     if LARGEST < ikm.len() {
         return 1;

@@ -2,3 +2,4 @@
 pub mod aead;
 pub mod cipher_suites;
 mod hash;
+mod judge;

@@ -23,9 +23,10 @@ use Rattle.suites.specs.declared.sizes.Suite.the-variants.{Ctr80, Ctr64,
 use Rattle.suites.specs.declared.sizes.Mode.{Mode}
 use Rattle.suites.specs.declared.sizes.Mode.the-variants.{CtrHmac, Gcm}
 use Rattle.suites.specs.declared.sizes.Found.the-variants.{Known, Unknown}
-use Rattle.suites.specs.Suites.{suiteOf, numberOf, Nk, Nn, Nt, hashOf, modeOf, cipherKeySize}
-use Rattle.suites.specs.Derivation.{sframeKey, sframeSalt, nonce}
+use Rattle.suites.specs.Suites.{table, suiteOf, numberOf, Nk, Nka, Nn, Nt, hashOf, modeOf, cipherKeySize}
+use Rattle.suites.specs.Derivation.{secretKey, secretSalt, derived, sframeKey, sframeSalt, nonce}
 use Rattle.suites.specs.Aead.{cipherKey, firstCount, ctrTag, tagIn, ciphertext, tag, encrypt, plain, differs, decrypt}
+use Rattle.hmac.specs.Hkdf.{hashLen}
 use Rattle.hmac.proofs.Laws.{hmac-length, hmac-octets, expand-length, expand-octets}
 
 -- ---- numbers
@@ -82,6 +83,32 @@ Nt-most Ctr32 = omega arith
 Nt-most Gcm128 = omega arith
 Nt-most Gcm256 = omega arith
 
+-- the two modes differ
+pub ctr-not-gcm : CtrHmac ≡ Gcm → ⊥
+ctr-not-gcm e = let z : _≡_ {A = ℕ} 0 1 = cc in omega arith
+
+-- Table 1's columns that have one value: Nn, Nka where there is one, and Nh as the hash has it
+pub row-nn : (s : Suite) → table s .nn ≡ Nn
+row-nn Ctr80 = refl
+row-nn Ctr64 = refl
+row-nn Ctr32 = refl
+row-nn Gcm128 = refl
+row-nn Gcm256 = refl
+
+pub row-nka : (s : Suite) → modeOf s ≡ CtrHmac → table s .nka ≡ Nka
+row-nka Ctr80 e = refl
+row-nka Ctr64 e = refl
+row-nka Ctr32 e = refl
+row-nka Gcm128 e = absurd (ctr-not-gcm (sym e))
+row-nka Gcm256 e = absurd (ctr-not-gcm (sym e))
+
+pub row-nh : (s : Suite) → table s .nh ≡ hashLen (hashOf s)
+row-nh Ctr80 = refl
+row-nh Ctr64 = refl
+row-nh Ctr32 = refl
+row-nh Gcm128 = refl
+row-nh Gcm256 = refl
+
 -- AES takes 16 or 32 bytes of the key
 pub cipher-key-size : (s : Suite) → (cipherKeySize s ≤ Nk s) × KeySize (cipherKeySize s)
 cipher-key-size Ctr80 = (omega arith, aes-128)
@@ -91,9 +118,6 @@ cipher-key-size Gcm128 = (omega arith, aes-128)
 cipher-key-size Gcm256 = (omega arith, aes-256)
 
 -- in counter mode with HMAC, the key and the tag have these sizes
-pub ctr-not-gcm : CtrHmac ≡ Gcm → ⊥
-ctr-not-gcm e = let z : _≡_ {A = ℕ} 0 1 = cc in omega arith
-
 pub ctr-sizes : (s : Suite) → modeOf s ≡ CtrHmac → (Nk s ≡ 48) × (Nt s ≤ 16)
 ctr-sizes Ctr80 e = (refl, omega arith)
 ctr-sizes Ctr64 e = (refl, omega arith)
@@ -125,21 +149,30 @@ hash-some Ctr32 = omega arith
 hash-some Gcm128 = omega arith
 hash-some Gcm256 = omega arith
 
+-- what is derived has the length asked for, and is bytes
+derived-length : (t : List ℕ) (s : Suite) (base : List ℕ) (kid n : ℕ) → length (derived t s base kid n) ≡ n
+unfolding derived
+derived-length t s base kid n = expand-length (hashOf s) (hash-eight s) (hash-some s) _ _ n
+
+derived-octets : (t : List ℕ) (s : Suite) (base : List ℕ) (kid n : ℕ) → Octets (derived t s base kid n)
+unfolding derived
+derived-octets t s base kid n = expand-octets (hashOf s) _ _ n
+
 pub key-length : (s : Suite) (base : List ℕ) (kid : ℕ) → length (sframeKey s base kid) ≡ Nk s
 unfolding sframeKey
-key-length s base kid = expand-length (hashOf s) (hash-eight s) (hash-some s) _ _ (Nk s)
+key-length s base kid = derived-length secretKey s base kid (Nk s)
 
 pub key-octets : (s : Suite) (base : List ℕ) (kid : ℕ) → Octets (sframeKey s base kid)
 unfolding sframeKey
-key-octets s base kid = expand-octets (hashOf s) _ _ (Nk s)
+key-octets s base kid = derived-octets secretKey s base kid (Nk s)
 
 pub salt-length : (s : Suite) (base : List ℕ) (kid : ℕ) → length (sframeSalt s base kid) ≡ Nn
 unfolding sframeSalt
-salt-length s base kid = expand-length (hashOf s) (hash-eight s) (hash-some s) _ _ Nn
+salt-length s base kid = derived-length secretSalt s base kid Nn
 
 pub salt-octets : (s : Suite) (base : List ℕ) (kid : ℕ) → Octets (sframeSalt s base kid)
 unfolding sframeSalt
-salt-octets s base kid = expand-octets (hashOf s) _ _ Nn
+salt-octets s base kid = derived-octets secretSalt s base kid Nn
 
 -- ---- the nonce
 
@@ -225,7 +258,7 @@ whole-key Gcm256 k e h = take-all 32 k (omega arith)
 -- with a suite of GCM it is GCM's own encryption
 pub encrypt-gcm : (s : Suite) (k n a p : List ℕ) → modeOf s ≡ Gcm → length k ≡ Nk s → encrypt s k n a p ≡ gcmEncrypt k n a p
 unfolding encrypt ciphertext tag gcmEncrypt gcmCiphertext
-encrypt-gcm s k n a p e h = rw (e, whole-key s k e h)
+encrypt-gcm s k n a p e h = rw (whole-key s k e h, e)
 
 -- ---- decryption
 

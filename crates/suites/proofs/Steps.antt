@@ -1,53 +1,48 @@
 -- The steps of the code, over plain variables. Assumes nothing.
-use mathlib.Core.Path.{_≡_, sym, _∙_, ap, ap₂}
-use mathlib.Core.List.{List, [], _++_, append-assoc, append-nil}
-use mathlib.Core.Bool.{true, false}
+use mathlib.Core.Path.{_≡_, refl, sym, _∙_, ap, ap₂}
+use mathlib.Core.List.{List, [], _++_, append-nil}
+use mathlib.Core.Bool.{Bool}
 use Prim.Native.Nat.{ℕ, _+_, _-_, _≤_}
-use native.Mathlib.Nat.{zero-add, sub-zero}
+use native.Mathlib.Nat.{sub-zero}
 use native.Mathlib.Omega.{arith}
-use lib.ListN.{length, take, drop, length-append, length-take, length-drop, drop-of-length-le}
+use lib.ListN.{length, take, drop, length-append, length-take, length-drop}
 use lib.Seq.{length-take-le, take-append-le, take-take, take-all, take-at}
 use borrow.Author.Tests.{le-leb}
-use Rattle.octets.specs.Octets.{bytes, pasted, xors, same}
-use Rattle.octets.proofs.Laws.{bytes-length, pasted-append, pasted-front, part-rest}
+use Rattle.octets.specs.Octets.{bytes, pasted, xors, same, pick}
+use Rattle.hmac_tag.proofs.Writing.{front-all, three-written}
+use Rattle.octets.proofs.Laws.{bytes-length, pasted-front, part-rest}
 use Rattle.sha2.specs.Sha2.{Params}
 use Rattle.hmac.specs.Hkdf.{extract, expand}
 use Rattle.suites.specs.declared.sizes.Suite.{Suite}
 use Rattle.suites.specs.Suites.{numberOf, Nk, Nn, Nt, hashOf, modeOf, cipherKeySize}
 use Rattle.suites.specs.declared.sizes.Mode.the-variants.{CtrHmac, Gcm}
 use Rattle.aes.specs.Aes.{KeySize}
-use Rattle.aes.specs.Context.{Context}
+use Rattle.aes.specs.inner.Context.{Context}
 use Rattle.sha2.specs.Sizes.{sha256}
 use Rattle.hmac.specs.Hmac.{hmac}
 use Rattle.gcm.specs.Counter.{ctr}
 use Rattle.gcm.specs.Gcm.{gcmTag}
-use Rattle.suites.specs.Aead.{tagInput, cipherKey, firstCount, ctrTag, tag, ciphertext, encrypt, decrypt, plain, differs}
+use Rattle.hmac_tag.specs.TagInput.{tagInput}
+use Rattle.suites.specs.Aead.{cipherKey, firstCount, ctrTag, tag, ciphertext, encrypt, decrypt, plain, differs}
 use Rattle.suites.proofs.Laws.{cipher-key-size, gcm-sizes, whole-key, tag-length, ciphertext-length}
-use Rattle.suites.specs.Derivation.{secretKey, secretSalt, secret, label, sframeKey, sframeSalt, nonce}
+use Rattle.suites.specs.Derivation.{secret, label, derived, nonce}
 
--- what is written over the whole of a list is what the list then is
-front-all : (x l : List ℕ) (n : ℕ) → length l ≤ n → x ++ drop n l ≡ x
-front-all x l n h = ap (λ (t : List ℕ). x ++ t) (drop-of-length-le l h) ∙ append-nil x
-
-pub label-written : (o a b r t : List ℕ) (s : Suite) (n kid : ℕ) → length o ≡ length t + 10 → a ≡ pasted o 0 t → b ≡ pasted a (length t) (bytes 8 kid)
-    → r ≡ pasted b (length t + 8) (bytes 2 n) → n ≡ numberOf s → r ≡ label t s kid
+pub label-written : (o a b r t : List ℕ) (s : Suite) (n kid : ℕ) → length t + 10 ≤ length o → a ≡ pasted o 0 t → b ≡ pasted a (length t) (bytes 8 kid)
+    → r ≡ pasted b (length t + 8) (bytes 2 n) → n ≡ numberOf s → r ≡ pasted o 0 (label t s kid)
 unfolding label
 label-written o a b r t s n kid h p q w e =
-    let k = bytes 8 kid in
-    let m = bytes 2 n in
     let lk = bytes-length 8 kid in
     let lm = bytes-length 2 n in
-    let i : length t ≡ 0 + length t = sym (zero-add (length t)) in
-    let two : b ≡ pasted o 0 (t ++ k) = q ∙ ap₂ (λ (l : List ℕ) (j : ℕ). pasted l j k) p i ∙ pasted-append o 0 t k (omega arith) in
-    let j : length t + 8 ≡ 0 + length (t ++ k) = simp length-append (omega arith) in
-    let three : r ≡ pasted o 0 ((t ++ k) ++ m) =
-    w ∙ ap₂ (λ (l : List ℕ) (j : ℕ). pasted l j m) two j ∙ pasted-append o 0 (t ++ k) m (simp length-append (omega arith))
-    in
-    three
-    ∙ pasted-front o ((t ++ k) ++ m)
-    ∙ front-all ((t ++ k) ++ m) o (length ((t ++ k) ++ m)) (simp length-append (omega arith))
-    ∙ append-assoc t k m
-    ∙ ap (λ (x : ℕ). t ++ (k ++ bytes 2 x)) e
+    three-written o a b r t (bytes 8 kid) (bytes 2 n) (length t) (length t + 8) (omega arith) refl (omega arith) p q w
+    ∙ ap (λ (x : ℕ). pasted o 0 (t ++ (bytes 8 kid ++ bytes 2 x))) e
+
+-- the label at the front of the room that it was written to
+pub label-front : (o p t : List ℕ) (s : Suite) (kid n : ℕ) → n ≡ length t + 8 + 2 → p ≡ pasted o 0 (label t s kid) → take (n - 0) p ≡ label t s kid
+unfolding label
+label-front o p t s kid n e h =
+    let l = label t s kid in
+    let m : length l ≡ n = simp (length-append, bytes-length) (omega arith) in
+    rw (sub-zero, h, pasted-front) (take-at l _ n m)
 
 pub nonce-made : (y c n r t : List ℕ) (ctr : ℕ) → length t ≡ Nn → length y ≤ Nn → c ≡ bytes Nn ctr ++ [] → n ≡ t ++ drop (length t) y → r ≡ xors n c
     → r ≡ nonce t ctr
@@ -55,45 +50,14 @@ unfolding nonce
 nonce-made y c n r t ctr h hy p q e = e ∙ ap₂ xors (q ∙ front-all t y (length t) (omega arith)) (p ∙ append-nil (bytes Nn ctr))
 
 -- what is expanded with the suite's hash
-pub expanded : (p : Params) (s : Suite) (base e l r : List ℕ) (n : ℕ) → hashOf s ≡ p → e ≡ extract p [] base → r ≡ expand p e l n → r ≡ expand (hashOf s) (secret s base) l n
+pub expanded : (p : Params) (s : Suite) (base e l r : List ℕ) (n : ℕ) → p ≡ hashOf s → e ≡ extract p [] base → r ≡ expand p e l n → r ≡ expand (hashOf s) (secret s base) l n
 unfolding secret
-expanded p s base e l r n is x w = rw (w, is, x)
+expanded p s base e l r n is x w = rw (w, x, is)
 
--- what is expanded under its label
-pub key-derived : (s : Suite) (base l r : List ℕ) (kid n : ℕ) → l ≡ label secretKey s kid → n ≡ Nk s → r ≡ expand (hashOf s) (secret s base) l n → r ≡ sframeKey s base kid
-unfolding sframeKey
-key-derived s base l r kid n e h w = rw (w, e, h)
-
-pub salt-derived : (s : Suite) (base l r : List ℕ) (kid n : ℕ) → l ≡ label secretSalt s kid → n ≡ Nn → r ≡ expand (hashOf s) (secret s base) l n → r ≡ sframeSalt s base kid
-unfolding sframeSalt
-salt-derived s base l r kid n e h w = rw (w, e, h)
-
--- three numbers of 8 bytes written one after the other fill 24 bytes
-pub lengths-written : (o a b r : List ℕ) (x y z : ℕ) → length o ≡ 24 → a ≡ pasted o 0 (bytes 8 x) → b ≡ pasted a 8 (bytes 8 y) → r ≡ pasted b 16 (bytes 8 z)
-    → r ≡ bytes 8 x ++ (bytes 8 y ++ bytes 8 z)
-lengths-written o a b r x y z h p q w =
-    let bx = bytes 8 x in
-    let by = bytes 8 y in
-    let bz = bytes 8 z in
-    let lx = bytes-length 8 x in
-    let ly = bytes-length 8 y in
-    let lz = bytes-length 8 z in
-    let i : 8 ≡ 0 + length bx = omega arith in
-    let two : b ≡ pasted o 0 (bx ++ by) = q ∙ ap₂ (λ (l : List ℕ) (j : ℕ). pasted l j by) p i ∙ pasted-append o 0 bx by (omega arith) in
-    let j : 16 ≡ 0 + length (bx ++ by) = simp length-append (omega arith) in
-    let three : r ≡ pasted o 0 ((bx ++ by) ++ bz) =
-    w ∙ ap₂ (λ (l : List ℕ) (k : ℕ). pasted l k bz) two j ∙ pasted-append o 0 (bx ++ by) bz (simp length-append (omega arith))
-    in
-    three
-    ∙ pasted-front o ((bx ++ by) ++ bz)
-    ∙ front-all ((bx ++ by) ++ bz) o (length ((bx ++ by) ++ bz)) (simp length-append (omega arith))
-    ∙ append-assoc bx by bz
-
--- the parts that are fed make the tag's input
-pub parts-fed : (l n h m c : List ℕ) (nt : ℕ) → l ≡ bytes 8 (length h + length m) ++ (bytes 8 (length c) ++ bytes 8 nt)
-    → ((((([] ++ l) ++ n) ++ h) ++ m) ++ c) ≡ tagInput nt n (h ++ m) c
-unfolding tagInput
-parts-fed l n h m c nt e = rw (e, length-append h m) (simp append-assoc)
+-- what is expanded under the label of a text
+pub label-derived : (s : Suite) (base t l r : List ℕ) (kid n : ℕ) → l ≡ label t s kid → r ≡ expand (hashOf s) (secret s base) l n → r ≡ derived t s base kid n
+unfolding derived
+label-derived s base t l r kid n e w = rw (w, e)
 
 -- ---- encryption and decryption
 
@@ -157,18 +121,11 @@ compared s k n a l t nt m f g =
     ap₂ same (sym (part-rest m l))
     (ap (λ (x : ℕ). tag s k n a (take x l)) (sym (sub-zero m)) ∙ sym g ∙ ap (λ (x : ℕ). take x t) (sym (sub-zero nt ∙ f)))
 
-pub opened : (s : Suite) (k n a l t : List ℕ) (nt m : ℕ) → nt ≡ Nt s → m ≡ length l - nt → nt ≤ length l → take (Nt s) t ≡ tag s k n a (take (m - 0) l)
-    → same (take (length l - m) (drop m l)) (take (nt - 0) t) ≡ true → decrypt s k n a l ≡ plain (ciphertext s k n (take m l))
+pub compared-tag : (s : Suite) (k n a l t : List ℕ) (nt m : ℕ) (b : Bool) → nt ≡ Nt s → m ≡ length l - nt → nt ≤ length l
+    → take (Nt s) t ≡ tag s k n a (take (m - 0) l) → same (take (length l - m) (drop m l)) (take (nt - 0) t) ≡ b
+    → decrypt s k n a l ≡ pick b (plain (ciphertext s k n (take m l))) differs
 unfolding decrypt
-opened s k n a l t nt m f e h g q =
-    let d : length l - Nt s ≡ m = omega arith in
-    let v = compared s k n a l t nt m f g ∙ q in
-    rw (d, le-leb (Nt s) (length l) (omega arith), v)
-
-pub refused : (s : Suite) (k n a l t : List ℕ) (nt m : ℕ) → nt ≡ Nt s → m ≡ length l - nt → nt ≤ length l → take (Nt s) t ≡ tag s k n a (take (m - 0) l)
-    → same (take (length l - m) (drop m l)) (take (nt - 0) t) ≡ false → decrypt s k n a l ≡ differs
-unfolding decrypt
-refused s k n a l t nt m f e h g q =
+compared-tag s k n a l t nt m b f e h g q =
     let d : length l - Nt s ≡ m = omega arith in
     let v = compared s k n a l t nt m f g ∙ q in
     rw (d, le-leb (Nt s) (length l) (omega arith), v)

@@ -4,9 +4,10 @@ use mathlib.Core.List.{List, _++_}
 use Prim.Native.Nat.{ℕ, _-_}
 use lib.Dec.{leb}
 use lib.ListN.{length, take, drop}
-use Rattle.octets.specs.Octets.{bytes, pick, both, same}
+use Rattle.octets.specs.Octets.{pick, both, same}
 use Rattle.sha2.specs.Sizes.{sha256}
 use Rattle.hmac.specs.Hmac.{hmac}
+use Rattle.hmac_tag.specs.TagInput.{tagInput}
 use Rattle.gcm.specs.Counter.{ctr}
 use Rattle.gcm.specs.Gcm.{gcmTag}
 use Rattle.suites.specs.declared.sizes.Suite.{Suite}
@@ -27,33 +28,23 @@ firstCount CtrHmac = 0
 firstCount Gcm = 2
 
 -- The ciphertext: AES in counter mode. It is a XOR with a key stream, and so its own inverse.
-unfoldable pub ciphertext : Suite → List ℕ → List ℕ → List ℕ → List ℕ
+unfoldable pub ciphertext : (s : Suite) (key nonce plaintext : List ℕ) → List ℕ
 ciphertext s key nonce plaintext = ctr (cipherKey s key) nonce (firstCount (modeOf s)) plaintext
 
--- The bytes of a length in the tag's input.
-abbrev pub lengthSize : ℕ
-lengthSize = 8
-
--- 4.5.1: the tag's input: the lengths of the associated data and of the ciphertext, and the tag's, in 8 bytes each; the
--- nonce, the associated data and the ciphertext.
-unfoldable pub tagInput : ℕ → List ℕ → List ℕ → List ℕ → List ℕ
-tagInput nt nonce aad ciphertext =
-    bytes lengthSize (length aad) ++ (bytes lengthSize (length ciphertext) ++ (bytes lengthSize nt ++ (nonce ++ (aad ++ ciphertext))))
-
 -- 4.5.1: the first Nt bytes of the HMAC.
-unfoldable pub ctrTag : ℕ → List ℕ → List ℕ → List ℕ → List ℕ → List ℕ
+unfoldable pub ctrTag : (nt : ℕ) (key nonce aad ciphertext : List ℕ) → List ℕ
 ctrTag nt key nonce aad ciphertext = take nt (hmac sha256 (authKey key) (tagInput nt nonce aad ciphertext))
 
 -- The tag of a suite: with HMAC, or GCM's own.
-abbrev pub tagIn : Mode → ℕ → List ℕ → List ℕ → List ℕ → List ℕ → List ℕ
+abbrev pub tagIn : (mode : Mode) (nt : ℕ) (key nonce aad ciphertext : List ℕ) → List ℕ
 tagIn CtrHmac nt key nonce aad c = ctrTag nt key nonce aad c
 tagIn Gcm nt key nonce aad c = gcmTag key nonce aad c
 
-unfoldable pub tag : Suite → List ℕ → List ℕ → List ℕ → List ℕ → List ℕ
+unfoldable pub tag : (s : Suite) (key nonce aad ciphertext : List ℕ) → List ℕ
 tag s key nonce aad c = tagIn (modeOf s) (Nt s) key nonce aad c
 
 -- 4.4.3: AEAD.Encrypt, the ciphertext and then the tag.
-unfoldable pub encrypt : Suite → List ℕ → List ℕ → List ℕ → List ℕ → List ℕ
+unfoldable pub encrypt : (s : Suite) (key nonce aad plaintext : List ℕ) → List ℕ
 encrypt s key nonce aad plaintext =
     let c = ciphertext s key nonce plaintext in
     c ++ tag s key nonce aad c
@@ -64,7 +55,7 @@ pub data Decrypted : Type 0 where
   differs : Decrypted
 
 -- 4.4.4: AEAD.Decrypt. The last Nt bytes are the tag; they have to be that of the bytes before them.
-unfoldable pub decrypt : Suite → List ℕ → List ℕ → List ℕ → List ℕ → Decrypted
+unfoldable pub decrypt : (s : Suite) (key nonce aad sealed : List ℕ) → Decrypted
 decrypt s key nonce aad sealed =
     let n = length sealed - Nt s in
     let c = take n sealed in

@@ -1,3 +1,4 @@
 pub mod Suites
 pub mod Derivation
 pub mod Aead
+pub mod inner

@@ -3,17 +3,19 @@ ghost use mathlib.Core.Path.{_≡_};
 ghost use mathlib.Core.List.{_++_};
 ghost use Prim.Native.Nat.{_+_, _-_, _≤_};
 ghost use lib.ListN.{length, take, drop};
-ghost use Rattle.aes.specs.Context.{Context, Ready, keyOf};
+ghost use Rattle.aes.specs.inner.Context.{Context, Ready, keyOf};
 ghost use Rattle.gcm.specs.Counter.{ctr};
-ghost use Rattle.gcm.specs.Gcm.{maxBytes, gcmTag};
-ghost use Rattle.suites.specs.Suites.{Nk, Nn, Nt, maxNt, modeOf};
+ghost use Rattle.gcm.specs.Gcm.{gcmTag};
+ghost use Rattle.gcm.specs.inner.Limits.{maxBytes};
+ghost use Rattle.suites.specs.Suites.{Nk, Nn, Nt, modeOf};
+ghost use Rattle.suites.specs.inner.Sizes.{maxNt};
 ghost use Rattle.suites.specs.declared.sizes.Suite.the-variants.{Ctr80};
 ghost use Rattle.suites.specs.Aead.{cipherKey, firstCount, ctrTag, tag, encrypt, decrypt, isPlain, roomAfter};
-use crate::hmac_tag::mac;
 use crate::sizes::Aes128CtrHmacSha256Tag80;
 use crate::sizes::Aes128GcmSha256;
 use crate::sizes::Mode;
 use crate::sizes::Suite;
+use hmac_tag::mac;
 
 // The bytes of the longest tag, which is that of Galois/counter mode.
 const MAX_NT: usize = Aes128GcmSha256::NT;

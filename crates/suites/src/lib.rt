@@ -1,7 +1,6 @@
 // The cipher suites of RFC 9605, section 4.5: their sizes, key derivation, the nonce, and encryption and decryption.
 pub mod aead;
 pub mod derivation;
-pub mod hmac_tag;
 pub mod sizes;
 
 pub use sizes::Found;

@@ -1,6 +1,6 @@
 // Each suite as a type with its sizes in bytes (RFC 9605, Table 1), and all five as one enum.
 ghost use mathlib.Core.Path.{_≡_};
-ghost use Rattle.suites.specs.Suites.{suiteOf, numberOf, modeOf, cipherKeySize, Nk, Nn, Nt};
+ghost use Rattle.suites.specs.Suites.{suiteOf, numberOf, modeOf, hashOf, paramsOf, cipherKeySize, Nk, Nn, Nt};
 
 // AES_128_CTR_HMAC_SHA256_80
 pub struct Aes128CtrHmacSha256Tag80;
@@ -87,6 +87,12 @@ pub enum Suite {
 pub enum Mode {
     CtrHmac,
     Gcm,
+}
+
+// The hash of a suite's key derivation.
+pub enum Hash {
+    Sha256,
+    Sha512,
 }
 
 // The suite of a number, or that it is none's.
@@ -184,6 +190,18 @@ impl Suite {
             Suite::Ctr32 => Mode::CtrHmac,
             Suite::Gcm128 => Mode::Gcm,
             Suite::Gcm256 => Mode::Gcm,
+        }
+    }
+
+    pub fn hash(self) -> Hash
+        ensures { λ r. ⌜ paramsOf r ≡ hashOf self ⌝ }
+    {
+        match self {
+            Suite::Ctr80 => Hash::Sha256,
+            Suite::Ctr64 => Hash::Sha256,
+            Suite::Ctr32 => Hash::Sha256,
+            Suite::Gcm128 => Hash::Sha256,
+            Suite::Gcm256 => Hash::Sha512,
         }
     }
 }

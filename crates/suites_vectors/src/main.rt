@@ -22,9 +22,10 @@ struct Tally {
     wrong: u64,
 }
 
-// What a line tells of: an AEAD case, an SFrame case with its three steps, or nothing.
+// What a line tells of: an AEAD case, a case of GCM's own, an SFrame case with its three steps, or nothing.
 enum Line {
     Aead(bool),
+    Gcm(bool),
     Sframe(bool, bool, bool),
     Comment,
 }
@@ -102,6 +103,11 @@ fn hex(line: &[u8], column: usize, out: &mut [u8]) -> usize
     n
 }
 
+// Room for the longest input or result.
+fn empty() -> [u8; 80] {
+    [0u8; 80]
+}
+
 // Whether encryption into a room gives the bytes wanted.
 fn encrypts(
     room: &mut [u8],
@@ -166,8 +172,8 @@ fn agrees(
     plaintext: &[u8],
     sealed: &[u8],
 ) -> bool {
-    let mut room = [0u8; 64];
-    let mut other = [0u8; 64];
+    let mut room = empty();
+    let mut other = empty();
     encrypts(
         &mut room,
         suite,
@@ -193,15 +199,15 @@ fn agrees(
 // Whether the AEAD case of a line comes out right, both ways.
 fn aead(line: &[u8]) -> bool {
     let suite = number(line, 1);
-    let mut k = [0u8; 64];
+    let mut k = empty();
     let kn = hex(line, 2, &mut k);
-    let mut i = [0u8; 64];
+    let mut i = empty();
     let ni = hex(line, 3, &mut i);
-    let mut a = [0u8; 64];
+    let mut a = empty();
     let an = hex(line, 4, &mut a);
-    let mut p = [0u8; 64];
+    let mut p = empty();
     let pn = hex(line, 5, &mut p);
-    let mut e = [0u8; 64];
+    let mut e = empty();
     let en = hex(line, 6, &mut e);
     agrees(suite, &k[..kn], &i[..ni], b"", &a[..an], &p[..pn], &e[..en])
 }
@@ -232,14 +238,14 @@ fn derives(
 fn derivation(line: &[u8]) -> bool {
     let suite = number(line, 1);
     let kid = number(line, 2);
-    let mut b = [0u8; 64];
+    let mut b = empty();
     let bn = hex(line, 4, &mut b);
-    let mut k = [0u8; 64];
+    let mut k = empty();
     let kn = hex(line, 5, &mut k);
-    let mut s = [0u8; 64];
+    let mut s = empty();
     let sn = hex(line, 6, &mut s);
-    let mut x = [0u8; 64];
-    let mut y = [0u8; 64];
+    let mut x = empty();
+    let mut y = empty();
     derives(&mut x, &mut y, suite, &b[..bn], kid, &k[..kn], &s[..sn])
 }
 
@@ -255,9 +261,9 @@ fn gives(salt: &[u8], ctr: u64, want: &[u8]) -> bool {
 // Whether the nonce of a line comes out right.
 fn nonce(line: &[u8]) -> bool {
     let ctr = number(line, 3);
-    let mut s = [0u8; 64];
+    let mut s = empty();
     let sn = hex(line, 6, &mut s);
-    let mut i = [0u8; 64];
+    let mut i = empty();
     let ni = hex(line, 7, &mut i);
     gives(&s[..sn], ctr, &i[..ni])
 }
@@ -302,17 +308,17 @@ fn frame(line: &[u8]) -> bool {
     let suite = number(line, 1);
     let kid = number(line, 2);
     let ctr = number(line, 3);
-    let mut k = [0u8; 64];
+    let mut k = empty();
     let kn = hex(line, 5, &mut k);
-    let mut i = [0u8; 64];
+    let mut i = empty();
     let ni = hex(line, 7, &mut i);
-    let mut m = [0u8; 64];
+    let mut m = empty();
     let mn = hex(line, 8, &mut m);
-    let mut p = [0u8; 64];
+    let mut p = empty();
     let pn = hex(line, 9, &mut p);
-    let mut f = [0u8; 64];
+    let mut f = empty();
     let size = hex(line, 10, &mut f);
-    let mut room = [0u8; 64];
+    let mut room = empty();
     seals(
         &mut room,
         suite,
@@ -333,6 +339,7 @@ fn judge(line: &[u8]) -> Line {
     let kind = line[0];
     match kind {
         b'a' => Line::Aead(aead(line)),
+        b'g' => Line::Gcm(aead(line)),
         b's' => Line::Sframe(derivation(line), nonce(line), frame(line)),
         _ => Line::Comment,
     }
@@ -378,6 +385,7 @@ fn print(name: &[u8], t: Tally) {
 // Judges each line of s, and prints the groups' counts.
 fn run(s: &[u8]) {
     let mut aeads = Tally { right: 0, wrong: 0 };
+    let mut gcms = Tally { right: 0, wrong: 0 };
     let mut keys = Tally { right: 0, wrong: 0 };
     let mut nonces = Tally { right: 0, wrong: 0 };
     let mut frames = Tally { right: 0, wrong: 0 };
@@ -386,6 +394,7 @@ fn run(s: &[u8]) {
         let e = line_end(s, i);
         match judge(&s[i..e]) {
             Line::Aead(ok) => aeads = counted(aeads, ok),
+            Line::Gcm(ok) => gcms = counted(gcms, ok),
             Line::Sframe(k, n, f) => {
                 keys = counted(keys, k);
                 nonces = counted(nonces, n);
@@ -396,6 +405,7 @@ fn run(s: &[u8]) {
         i = e;
     }
     print(b"D.2, encryption and decryption: ", aeads);
+    print(b"GCM test cases, suites 4 and 5: ", gcms);
     print(b"D.3, key and salt: ", keys);
     print(b"D.3, nonce: ", nonces);
     print(b"D.3, frame: ", frames);

@@ -4,7 +4,7 @@ use mathlib.Core.Path.{_≡_, refl}
 use Prim.Native.Nat.{_+_, _≤_, _-_}
 use native.Mathlib.Omega.{arith}
 use Rattle.aes.specs.Aes.{rounds}
-use Rattle.aes.specs.Context.{listOf}
+use Rattle.aes.specs.inner.Context.{listOf}
 use Rattle.aes.proofs.Expansion.{rounds-step, encrypted}
 use borrow.Author.Needs.{needs}
 use Rattle.aes.proofs.encrypt.Statement.{statement}
@@ -20,14 +20,21 @@ loop-holds : tie.Need-loop-holds Inv-loop μ-loop
 unfolding rounds
 loop-holds c = (omega arith, refl)
 
+-- ---- points of the program, each reached from a later one
+
+abbrev to-add-round-key : tie.After-add-round-key3 Inv-loop μ-loop → tie.After-add-round-key Inv-loop μ-loop
+to-add-round-key c = c .before .before .before .before
+
+-- ----
+
 loop-again : tie.Need-loop-again Inv-loop μ-loop
-loop-again c =
-    (omega arith, rounds-step _ _ _ _ _ _ (c .before .before .before .loop .inv .1) (c .before .mix .ensures) (c .add-round-key2 .ensures))
+loop-again c = (omega arith, rounds-step _ _ _ _ _ _ (c .before .before .before .loop .inv .1) (c .before .mix .ensures) (c .add-round-key2 .ensures))
 
 returns : tie.Need-returns Inv-loop μ-loop
 returns c =
-    encrypted _ _ _ _ _ _ _ _ _ (c .before .before .before .before .before .before .pre) refl (omega arith)
-    (c .before .before .before .before .add-round-key .ensures) (c .before .before .before .loop .inv .1)
+    let at-add-round-key = to-add-round-key c in
+    encrypted _ _ _ _ _ _ _ _ _ (at-add-round-key .before .before .pre) refl (omega arith)
+    (at-add-round-key .add-round-key .ensures) (c .before .before .before .loop .inv .1)
     (c .before .shift .ensures) (c .add-round-key3 .ensures)
 
 pub encrypt-spec : {M : Type 1} → statement M

@@ -8,10 +8,18 @@ use borrow.Author.Needs.{needs}
 use Rattle.aes.proofs.load.Statement.{statement}
 use Rattle.aes.proofs.load.Tie as tie
 
+-- ---- points of the program, each reached from a later one
+
+abbrev to-start : tie.After-read-be324 → tie.Start
+to-start c = c .before .before .before .before .before .before .before .before
+
+-- ----
+
 returns : tie.Need-returns
 unfolding stateOf
 returns c =
-    let b : List ℕ = c .before .before .before .before .before .before .before .before .args .block .now in
+    let at-start = to-start c in
+    let b : List ℕ = at-start .args .block .now in
     cc (part-rest 4 b, part-rest 8 b, part-rest 12 b)
 
 pub load-spec : {M : Type 1} → statement M

@@ -10,9 +10,17 @@ use borrow.Author.Needs.{needs}
 use Rattle.aes.proofs.put.Statement.{statement}
 use Rattle.aes.proofs.put.Tie as tie
 
+-- ---- points of the program, each reached from a later one
+
+abbrev to-start : tie.After-slice-known2 → tie.Start
+to-start c = c .before .before .before .before .before
+
+-- ----
+
 returns : tie.Need-returns
 returns c =
-    let a = c .before .before .before .before .before .args in
+    let at-start = to-start c in
+    let a = at-start .args in
     lent-pasted (a .out .now) _ (bytes 4 (a .w)) (a .i) (length (a .out .now) - a .i) (rw bytes-length (omega arith)) (omega arith) (c .before .before .write-be32 .ensures ∙ rw bytes-length)
 
 pub put-spec : {M : Type 1} → statement M

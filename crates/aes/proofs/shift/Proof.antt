@@ -6,10 +6,18 @@ use borrow.Author.Needs.{needs}
 use Rattle.aes.proofs.shift.Statement.{statement}
 use Rattle.aes.proofs.shift.Tie as tie
 
+-- ---- points of the program, each reached from a later one
+
+abbrev to-start : tie.After-substituted4 → tie.Start
+to-start c = c .before .before .before .before
+
+-- ----
+
 returns : tie.Need-returns
 unfolding shifted
 returns c =
-    let s : State = c .before .before .before .before .args .s in
+    let at-start = to-start c in
+    let s : State = at-start .args .s in
     cc (shift-columns (s .c0) (s .c1) (s .c2) (s .c3))
 
 pub shift-spec : {M : Type 1} → statement M

@@ -5,8 +5,17 @@ use borrow.Author.Needs.{needs}
 use Rattle.gcm.proofs.hash_key.Statement.{statement}
 use Rattle.gcm.proofs.hash_key.Tie as tie
 
+-- ---- points of the program, each reached from a later one
+
+abbrev to-encrypt-block : tie.After-expand → tie.After-encrypt-block
+to-encrypt-block c = c .before .before .before .before
+
+-- ----
+
 returns : tie.Need-returns
-returns c = hash-key-made _ _ _ _ (c .before .before .before .before .encrypt-block .ensures) (c .before .load .ensures) (c .expand .ensures)
+returns c =
+    let at-encrypt-block = to-encrypt-block c in
+    hash-key-made _ _ _ _ (at-encrypt-block .encrypt-block .ensures) (c .before .load .ensures) (c .expand .ensures)
 
 pub hash-key-spec : {M : Type 1} → statement M
 hash-key-spec =

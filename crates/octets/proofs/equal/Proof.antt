@@ -17,11 +17,19 @@ abbrev μ-loop : tie.MeasureT-loop
 returns : tie.Need-returns Inv-loop μ-loop
 returns c = sym (same-lengths _ _ (c .if1 .taken))
 
+-- ---- points of the program, each reached from a later one
+
+abbrev to-start : tie.After-shared-slice-known2 Inv-loop μ-loop → tie.Start Inv-loop μ-loop
+to-start c = c .before .before .before .before .before
+
+-- ----
+
 loop-again : tie.Need-loop-again Inv-loop μ-loop
 loop-again c =
+    let at-start = to-start c in
     let at = c .before .before .before .loop in
-    let a = c .before .before .before .before .before .args .a .now in
-    let b = c .before .before .before .before .before .args .b .now in (
+    let a = at-start .args .a .now in
+    let b = at-start .args .b .now in (
       search needs,
       differ-next (at .differ) (at .i) a b (omega arith) (omega arith) (at .inv .1),
       differ-before (at .differ) (at .i) a b (omega arith) (omega arith) (at .inv .2),

@@ -3,10 +3,18 @@ use Rattle.octets.proofs.Laws.{lent-bytes}
 use Rattle.octets.proofs.write_be_at.Statement.{statement}
 use Rattle.octets.proofs.write_be_at.Tie as tie
 
+-- ---- points of the program, each reached from a later one
+
+abbrev to-start : tie.After-slice-known2 → tie.Start
+to-start c = c .before .before .before .before .before
+
+-- ----
+
 returns : tie.Need-returns
 returns c =
-    let a = c .before .before .before .before .before .args in
-    lent-bytes (a .out .now) _ (a .i) (a .n) (a .x) (c .before .before .before .before .before .pre) (c .before .before .write-be .ensures)
+    let at-start = to-start c in
+    let a = at-start .args in
+    lent-bytes (a .out .now) _ (a .i) (a .n) (a .x) (at-start .pre) (c .before .before .write-be .ensures)
 
 pub write-be-at-spec : {M : Type 1} → statement M
 write-be-at-spec =

@@ -5,10 +5,10 @@ use Rattle.suites_vectors.proofs.run.Statement.{statement}
 use Rattle.suites_vectors.proofs.run.Tie as tie
 
 abbrev Inv-loop : tie.InvT-loop
-Inv-loop s aeads₀ keys₀ nonces₀ frames₀ i₀ t12 t13 t14 t15 aeads keys nonces frames i = i ≤ length s
+Inv-loop s aeads₀ gcms₀ keys₀ nonces₀ frames₀ i₀ t14 t15 t16 t17 t18 aeads gcms keys nonces frames i = i ≤ length s
 
 abbrev μ-loop : tie.MeasureT-loop
-μ-loop s aeads₀ keys₀ nonces₀ frames₀ i₀ t12 t13 t14 t15 aeads keys nonces frames i = length s - i
+μ-loop s aeads₀ gcms₀ keys₀ nonces₀ frames₀ i₀ t14 t15 t16 t17 t18 aeads gcms keys nonces frames i = length s - i
 
 pub run-spec : {M : Type 1} → statement M
 run-spec =
@@ -26,8 +26,10 @@ run-spec =
     (λ c κs. search needs)
     (λ c. search needs)
     (λ c κs. search needs)
+    (λ c. search needs)
     (λ c κs. search needs)
     (λ c κs. search needs)
+    (λ c κs. search needs)
     (λ c. search needs)
     (λ c. search needs)
     (λ c. search needs)
@@ -35,6 +37,10 @@ run-spec =
     (λ c. search needs)
     (λ c. search needs)
     (λ c. search needs)
+    (λ c. search needs)
+    (λ c. search needs)
+    (λ c. search needs)
+    (λ c κs. search needs)
     (λ c. search needs)
     (λ c κs. search needs)
     (λ c. search needs)

@@ -5,7 +5,7 @@ use Prim.Native.Nat.{_+_, _*_, _≤_, _-_}
 use native.Mathlib.Omega.{arith}
 use lib.ListN.{take}
 use Rattle.aes.specs.Aes.{Nk, Nr, expansion, keyExpansion}
-use Rattle.aes.specs.Context.{Table}
+use Rattle.aes.specs.inner.Context.{Table}
 use Rattle.aes.proofs.Expansion.{table-kept, expansion-step}
 use borrow.Author.Needs.{needs}
 use Rattle.aes.proofs.schedule.fill.Statement.{statement}

@@ -11,16 +11,16 @@ use Rattle.aes.proofs.schedule.round_constant.Tie as tie
 cast-result : tie.Need-cast-result
 cast-result c =
     let k = c .before .args .j - 1 in
-    omega (arith, c .constants .ensures .entry k (omega arith), xPower-lt k)
+    omega (arith, c .round-constants .ensures .entry k (omega arith), xPower-lt k)
 
 mul-result : tie.Need-mul-result
 mul-result c =
     let k = c .before .args .j - 1 in
-    omega (arith, c .constants .ensures .entry k (omega arith), xPower-lt k)
+    omega (arith, c .round-constants .ensures .entry k (omega arith), xPower-lt k)
 
 returns : tie.Need-returns
 unfolding rcon word
-returns c = rw (c .constants .ensures .entry (c .before .args .j - 1) (omega arith)) (omega arith)
+returns c = rw (c .round-constants .ensures .entry (c .before .args .j - 1) (omega arith)) (omega arith)
 
 pub round-constant-spec : {M : Type 1} → statement M
 round-constant-spec =

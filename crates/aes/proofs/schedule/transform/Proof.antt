@@ -8,6 +8,13 @@ use borrow.Author.Needs.{needs}
 use Rattle.aes.proofs.schedule.transform.Statement.{statement}
 use Rattle.aes.proofs.schedule.transform.Tie as tie
 
+-- ---- points of the program, each reached from a later one
+
+abbrev to-start : tie.After-substituted2 → tie.Start
+to-start c = c .before .before .before .before
+
+-- ----
+
 round-constant-requires : tie.Need-round-constant-requires
 round-constant-requires c κs = let p = c .before .before .pre .1 in round-number _ _ (p .0) (p .1) (p .2)
 
@@ -21,7 +28,8 @@ returns c =
 returns-2 : tie.Need-returns-2
 unfolding transformed subWord
 returns-2 c =
-    let a = c .before .before .before .before .args in
+    let at-start = to-start c in
+    let a = at-start .args in
     rw (ne-eqb (a .i % a .nk) 0 (c .before .before .before .if1 .left), lt-ltb 6 (a .nk) (c .before .before .if2 .taken), eq-eqb (a .i % a .nk) 4 (c .before .if3 .taken))
     (c .substituted2 .ensures)
 

@@ -1,6 +1,6 @@
 -- `aes::table::entry_of` meets its contract: the products by 2 and 3 are sums of the byte and its product by x.
 -- Assumes nothing.
-use Rattle.aes.specs.Context.{mixedByte}
+use Rattle.aes.specs.inner.Context.{mixedByte}
 use Rattle.aes.proofs.Words.{mul-two, mul-three}
 use borrow.Author.Needs.{needs}
 use Rattle.aes.proofs.table.entry_of.Statement.{statement}

@@ -4,7 +4,7 @@ use mathlib.Core.Path.{_≡_, ap, _∙_}
 use Prim.Native.Nat.{_≤_, _-_}
 use native.Mathlib.Omega.{arith}
 use borrow.Author.Count.{below-none}
-use Rattle.aes.specs.Context.{mixedByte, Table}
+use Rattle.aes.specs.inner.Context.{mixedByte, Table}
 use Rattle.aes.proofs.Columns.{table-step}
 use borrow.Author.Needs.{needs}
 use Rattle.aes.proofs.table.fill.Statement.{statement}

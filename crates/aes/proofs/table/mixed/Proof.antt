@@ -7,14 +7,22 @@ use borrow.Author.Needs.{needs}
 use Rattle.aes.proofs.table.mixed.Statement.{statement}
 use Rattle.aes.proofs.table.mixed.Tie as tie
 
+-- ---- points of the program, each reached from a later one
+
+abbrev to-start : tie.After-entry4 → tie.Start
+to-start c = c .before .before .before .before
+
+-- ----
+
 returns : tie.Need-returns
 returns c =
+    let at-start = to-start c in
     rw (
       c .before .before .before .entry .ensures,
       c .before .before .entry2 .ensures,
       c .before .entry3 .ensures,
       c .entry4 .ensures,
-      div-one (c .before .before .before .before .args .d),
+      div-one (at-start .args .d),
     )
     (mixed-column _ _ _ _ (sBox-lt _) (sBox-lt _) (sBox-lt _) (sBox-lt _))
 

@@ -1,6 +1,6 @@
 -- `aes::table::sub` meets its contract: the table's entry has the byte in its second place.
 -- Assumes nothing.
-use Rattle.aes.specs.Field.{sBox}
+use Rattle.aes_tables.specs.Field.{sBox}
 use Rattle.aes.proofs.Words.{sBox-lt}
 use Rattle.aes.proofs.Columns.{second-byte}
 use borrow.Author.Needs.{needs}

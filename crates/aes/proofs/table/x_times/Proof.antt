@@ -1,7 +1,7 @@
 -- `aes::table::x_times` meets its contract: the two remainders are those of the definition.
 -- Assumes nothing.
 use mathlib.Core.Path.{refl}
-use Rattle.aes.specs.Field.{xTimes}
+use Rattle.aes_tables.specs.Field.{xTimes}
 use borrow.Author.Needs.{needs}
 use Rattle.aes.proofs.table.x_times.Statement.{statement}
 use Rattle.aes.proofs.table.x_times.Tie as tie

@@ -6,10 +6,18 @@ use borrow.Author.Needs.{needs}
 use Rattle.gcm.proofs.counter.block.Statement.{statement}
 use Rattle.gcm.proofs.counter.block.Tie as tie
 
+-- ---- points of the program, each reached from a later one
+
+abbrev to-start : tie.After-read-be323 → tie.Start
+to-start c = c .before .before .before .before .before .before
+
+-- ----
+
 returns : tie.Need-returns
 returns c =
-    let a = c .before .before .before .before .before .before .args in
-    cc (counter-state (a .nonce .now) (a .count) (c .before .before .before .before .before .before .pre) (c .before .before .before .before .before .before .fits .count .fits), part-rest 4 (a .nonce .now), part-rest 8 (a .nonce .now))
+    let at-start = to-start c in
+    let a = at-start .args in
+    cc (counter-state (a .nonce .now) (a .count) (at-start .pre) (at-start .fits .count .fits), part-rest 4 (a .nonce .now), part-rest 8 (a .nonce .now))
 
 pub block-spec : {M : Type 1} → statement M
 block-spec =

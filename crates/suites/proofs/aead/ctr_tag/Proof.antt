@@ -3,10 +3,22 @@ use Rattle.suites.proofs.Steps.{ctr-tag-made}
 use Rattle.suites.proofs.aead.ctr_tag.Statement.{statement}
 use Rattle.suites.proofs.aead.ctr_tag.Tie as tie
 
+-- ---- points of the program, each reached from a later one
+
+abbrev to-start : tie.After-mac → tie.Start
+to-start c = c .before .before .before .before .before .before .before
+
+abbrev to-mac : tie.After-t2 → tie.After-mac
+to-mac c = c .before .before .before .before .before
+
+-- ----
+
 returns : tie.Need-returns
 returns c =
-    let a = c .before .before .before .before .before .before .before .before .before .before .before .before .args in
-    (ctr-tag-made (a .nt) (a .key .now) _ _ _ _ _ _ (c .before .before .before .before .before .before .before .before .before .before .before .before .pre .0 .2) (c .before .before .before .before .before .mac .ensures .1) (c .before .before .before .before .before .mac .ensures .0) (c .before .copy .ensures), search needs)
+    let at-mac = to-mac c in
+    let at-start = to-start at-mac in
+    let a = at-start .args in
+    (ctr-tag-made (a .nt) (a .key .now) _ _ _ _ _ _ (at-start .pre .0 .2) (at-mac .mac .ensures .1) (at-mac .mac .ensures .0) (c .before .copy .ensures), search needs)
 
 pub ctr-tag-spec : {M : Type 1} → statement M
 ctr-tag-spec =

@@ -6,25 +6,63 @@ use Rattle.suites.proofs.Laws.{Nt-most}
 use Rattle.suites.proofs.aead.encrypt.Statement.{statement}
 use Rattle.suites.proofs.aead.encrypt.Tie as tie
 
+-- ---- points of the program, each reached from a later one
+
+abbrev to-start-from-tag-size : tie.After-tag-size → tie.Start
+to-start-from-tag-size c = c .before .before .before .before .before .before .before
+
+abbrev to-start-from-context : tie.After-context → tie.Start
+to-start-from-context c = c .before .before .before .before .before .before .before .before
+
+abbrev to-start-from-apply-arg : tie.After-apply-arg → tie.Start
+to-start-from-apply-arg c = c .before .before .before .before .before .before .before .before .before .before
+
+abbrev to-tag-size-from-apply : tie.After-apply → tie.After-tag-size
+to-tag-size-from-apply c = c .before .before .before .before
+
+abbrev to-context : tie.After-tag-of-arg → tie.After-context
+to-context c = c .before .before .before .before .before .before .before .before
+
+abbrev to-apply : tie.After-tag-of → tie.After-apply
+to-apply c = c .before .before .before .before .before .before
+
+abbrev to-tag-size-from-t : tie.After-t → tie.After-tag-size
+to-tag-size-from-t c = c .before .before .before .before .before .before .before .before .before .before .before .before
+
+abbrev to-tag-of : tie.After-slice-known3 → tie.After-tag-of
+to-tag-of c = c .before .before .before .before .before .before
+
+-- ----
+
 apply-requires : tie.Need-apply-requires
 apply-requires c κs =
-    let pre = c .before .before .before .before .before .before .before .before .before .before .pre in
+    let at-start = to-start-from-apply-arg c in
+    let pre = at-start .pre in
     (context-ready (c .before .before .context .ensures), pre .0 .1, pre .1 .0 .2, omega (arith, pre .1 .1))
 
 tag-of-requires : tie.Need-tag-of-requires
 tag-of-requires c κs =
-    let pre = c .before .before .before .before .before .before .before .before .before .before .before .before .before .before .before .before .pre in
-    ((c .before .before .before .before .before .before .before .before .context .ensures, pre .0 .0, pre .0 .1), (pre .1 .0 .0, pre .1 .0 .1, front-most _ _ _ (pre .1 .0 .2)))
+    let at-context = to-context c in
+    let at-start = to-start-from-context at-context in
+    let pre = at-start .pre in
+    ((at-context .context .ensures, pre .0 .0, pre .0 .1), (pre .1 .0 .0, pre .1 .0 .1, front-most _ _ _ (pre .1 .0 .2)))
 
 part-copy-at-end : tie.Need-part-copy-at-end
-part-copy-at-end c = omega (arith, c .before .before .tag-of .ensures .1, c .before .before .before .before .before .before .before .before .before .before .before .before .tag-size .ensures, Nt-most (c .before .before .before .before .before .before .before .before .before .before .before .before .before .before .before .before .before .before .before .args .suite))
+part-copy-at-end c =
+    let at-tag-size = to-tag-size-from-t c in
+    let at-start = to-start-from-tag-size at-tag-size in
+    omega (arith, c .before .before .tag-of .ensures .1, at-tag-size .tag-size .ensures, Nt-most (at-start .args .suite))
 
 returns : tie.Need-returns
 returns c =
-    let a = c .before .before .before .before .before .before .before .before .before .before .before .before .before .before .before .before .before .before .before .before .before .before .before .args in
-    let pre = c .before .before .before .before .before .before .before .before .before .before .before .before .before .before .before .before .before .before .before .before .before .before .before .pre in
-    encrypted (a .suite) (a .key .now) _ _ (a .plaintext .now) (a .out .now) _ _ _ _ _ (context-key (c .before .before .before .before .before .before .before .before .before .before .before .before .before .before .before .context .ensures)) (pre .1 .1) (c .before .before .before .before .before .before .before .before .before .before .before .before .before .before .before .before .tag-size .ensures)
-    (c .before .before .before .before .before .before .before .before .before .before .before .before .apply .ensures) (c .before .before .before .before .before .before .tag-of .ensures .0) (c .before .before .copy-at .ensures)
+    let at-tag-of = to-tag-of c in
+    let at-apply = to-apply at-tag-of in
+    let at-tag-size = to-tag-size-from-apply at-apply in
+    let at-start = to-start-from-tag-size at-tag-size in
+    let a = at-start .args in
+    let pre = at-start .pre in
+    encrypted (a .suite) (a .key .now) _ _ (a .plaintext .now) (a .out .now) _ _ _ _ _ (context-key (at-apply .before .before .before .context .ensures)) (pre .1 .1) (at-tag-size .tag-size .ensures)
+    (at-apply .apply .ensures) (at-tag-of .tag-of .ensures .0) (c .before .before .copy-at .ensures)
 
 pub encrypt-spec : {M : Type 1} → statement M
 encrypt-spec =

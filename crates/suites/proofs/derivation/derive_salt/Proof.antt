@@ -1,19 +1,21 @@
+use mathlib.Core.Path.{_∙_, ap}
 use borrow.Author.Needs.{needs}
-use Rattle.suites.proofs.Steps.{salt-derived}
+use Rattle.suites.specs.Derivation.{derived, sframeSalt}
 use Rattle.suites.proofs.derivation.derive_salt.Statement.{statement}
 use Rattle.suites.proofs.derivation.derive_salt.Tie as tie
 
+-- ---- points of the program, each reached from a later one
+
+abbrev to-start : tie.After-slice-known2 → tie.Start
+to-start c = c .before .before .before .before .before .before .before
+
+-- ----
+
 returns : tie.Need-returns
+unfolding sframeSalt
 returns c =
-    let s = c .before .before .before .before .before .before .before .before in
-    salt-derived (s .args .suite) _ _ _ _ _ (c .before .before .before .before .before .salt-label .ensures .0) (s .pre .1) (c .before .before .expand-label .ensures)
+    let at-start = to-start c in
+    c .before .before .derive .ensures ∙ ap (derived _ _ _ _) (at-start .pre .1)
 
 pub derive-salt-spec : {M : Type 1} → statement M
-derive-salt-spec =
-    tie.close
-    (tie.spec
-    (λ c κs. search needs)
-    (λ c. search needs)
-    (λ c κs. search needs)
-    (λ c. search needs)
-    returns)
+derive-salt-spec = tie.close (tie.spec (λ c. search needs) (λ c κs. search needs) (λ c. search needs) returns)

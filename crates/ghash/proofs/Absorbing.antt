@@ -1,0 +1,86 @@
+-- Laws of GHASH's table and of the blocks that it takes in.
+-- Assumes nothing.
+use mathlib.Core.Path.{_≡_, ap, sym, _∙_}
+use mathlib.Core.List.{List, _++_}
+use Prim.Native.Nat.{ℕ, _+_, _*_, _-_, _/_, _^_, _≤_, _<_}
+use native.Mathlib.Nat.{zero-add}
+use native.Mathlib.Numerals.{add-one}
+use native.Mathlib.Omega.{arith}
+use borrow.Author.Count.{below-more}
+use borrow.Rule.Slice.PartMut.{putMid}
+use lib.Bits.{bitXor}
+use lib.Pow.{high, low}
+use lib.ListN.{length, getD, set, take, drop, length-set, length-append, length-drop}
+use lib.Seq.{getD-set-same, getD-set-other, getD-append-add, getD-drop, drop-append-le}
+use Rattle.octets.specs.Octets.{number, bytes, pasted}
+use Rattle.octets.proofs.Laws.{number-append, part-rest, bytes-length, bytes-add, bytes-mod, lent-bytes, pasted-append, pasted-front}
+use Rattle.ghash.specs.Ghash.{sum, product, absorbBlocks, absorb, pair}
+use Rattle.ghash.specs.inner.HashKey.{Entries}
+
+-- One entry more, written in two halves.
+pub entries-step : (h n hi lo : ℕ) (t : List ℕ) → n < 16 → pair hi lo ≡ sum 4 n h → Entries h n t
+    → Entries h (n + 1) (set (set t n hi) (16 + n) lo)
+entries-step h n hi lo t l e s =
+    let u : List ℕ = set t n hi in
+    let k : length u ≡ 32 = length-set t n hi ∙ s .sized in
+    let same : getD (set u (16 + n) lo) (16 + n) 0 ≡ lo = getD-set-same u (16 + n) lo 0 (omega arith) in
+    let top : getD (set u (16 + n) lo) n 0 ≡ hi =
+    getD-set-other u (16 + n) n lo 0 (omega arith) ∙ getD-set-same t n hi 0 (omega (arith, s .sized)) in
+    record {
+      sized = simp length-set (s .sized);
+      entry = below-more _ _ (λ j q. rw (kept-low j q, kept-high j q) (s .entry j q)) (rw (same, top) e);
+    }
+  where
+    kept-low : (j : ℕ) → j < n → getD (set (set t n hi) (16 + n) lo) (16 + j) 0 ≡ getD t (16 + j) 0
+    kept-low j q =
+        getD-set-other (set t n hi) (16 + n) (16 + j) lo 0 (omega arith) ∙ getD-set-other t n (16 + j) hi 0 (omega arith)
+
+    kept-high : (j : ℕ) → j < n → getD (set (set t n hi) (16 + n) lo) j 0 ≡ getD t j 0
+    kept-high j q = getD-set-other (set t n hi) (16 + n) j lo 0 (omega arith) ∙ getD-set-other t n j hi 0 (omega arith)
+
+pub append-after : (a b : List ℕ) (i : ℕ) → length a ≤ i → getD b (i - length a) 0 ≡ getD (a ++ b) i 0
+append-after a b i h =
+    let e : length a + (i - length a) ≡ i = omega arith in
+    sym (getD-append-add a b (i - length a) 0) ∙ rw e
+
+pub gather-step : (l out : List ℕ) (i k v : ℕ) → k < length out → v ≡ getD l (i + k) 0
+    → ((j : ℕ) → j < k → getD out j 0 ≡ getD (drop i l) j 0) → (j : ℕ) → j < k + 1 → getD (set out k v) j 0 ≡ getD (drop i l) j 0
+gather-step l out i k v h e f =
+    below-more _ _ (λ j q. getD-set-other out k j v 0 (omega arith) ∙ f j q)
+    (getD-set-same out k v 0 h ∙ e ∙ sym (getD-drop i l k 0))
+
+-- A block that lies in the first part is read there.
+pub direct : (a b : List ℕ) (i : ℕ) → i + 16 ≤ length a
+    → number 16 (take (length a - i) (drop i a)) ≡ number 16 (drop i (a ++ b))
+direct a b i h =
+    rw part-rest
+    (sym (ap (number 16) (drop-append-le i a b (omega arith)) ∙ number-append 16 (drop i a) b (simp length-drop (omega arith))))
+
+pub absorb-step : (h y : ℕ) (l : List ℕ) (i z b s r : ℕ) → z ≡ absorbBlocks h y l i → b ≡ number 16 (drop (16 * i) l)
+    → s ≡ bitXor z b → r ≡ product s h → r ≡ absorbBlocks h y l (i + 1)
+unfolding absorbBlocks
+absorb-step h y l i z b s r p q e f = f ∙ rw (e, p, q, add-one)
+
+pub absorb-done : (h y : ℕ) (a b : List ℕ) (i z : ℕ) → i ≡ (length a + length b + 15) / 16
+    → z ≡ absorbBlocks h y (a ++ b) i → z ≡ absorb h y (a ++ b)
+unfolding absorb
+absorb-done h y a b i z e p = p ∙ rw (length-append, e)
+
+-- A block written in two halves.
+pub stored-block : (l o p : List ℕ) (hi lo : ℕ) → 16 ≤ length l → lo < 2 ^ 64 → o ≡ bytes 8 hi ++ drop 8 l
+    → p ≡ bytes 8 lo ++ drop 8 (take (length o - 8) (drop 8 o)) → putMid 8 (length o - 8) o p ≡ bytes 16 (pair hi lo) ++ drop 16 l
+stored-block l o p hi lo h k e f =
+    let a = bytes 8 hi in
+    let b = bytes 8 lo in
+    let la : length a ≡ 8 = bytes-length 8 hi in
+    let lb : length b ≡ 8 = bytes-length 8 lo in
+    let n : length o ≡ length l = ap length e ∙ simp (length-append, length-drop) (omega arith) in
+    let q : o ≡ pasted l 0 a = e ∙ sym (pasted-front l a ∙ ap (λ (x : ℕ). a ++ drop x l) la) in
+    let m : length (a ++ b) ≡ 16 = length-append a b ∙ rw (la, lb) in
+    let w : bytes 16 (pair hi lo) ≡ a ++ b =
+    bytes-add 8 8 (pair hi lo) ∙ rw (high hi 64 k, ← bytes-mod 8 (pair hi lo), low hi 64 k) in
+    lent-bytes o p 8 8 lo (omega arith) f
+    ∙ ap (λ (x : List ℕ). pasted x 8 b) q
+    ∙ ap (λ (x : ℕ). pasted (pasted l 0 a) x b) (sym (zero-add (length a) ∙ la))
+    ∙ pasted-append l 0 a b (omega arith)
+    ∙ pasted-front l (a ++ b) ∙ rw (m, w)

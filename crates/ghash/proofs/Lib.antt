@@ -1,0 +1,3 @@
+mod Products
+mod Absorbing
+pub mod Laws
