@@ -4,10 +4,8 @@ layout, as `rt fmt` leaves them."""
 import functools
 import hashlib
 import re
-import sys
 from pathlib import Path
 
-sys.dont_write_bytecode = True
 ROOT = Path(__file__).resolve().parent.parent
 CRATES = ROOT / "crates"
 
