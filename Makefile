@@ -1,12 +1,21 @@
-# Two commands: `make demo` shows the main job, `make test` is the whole gate. `make memcheck` runs the
-# C example and a short comparison under valgrind; it needs the static library that either one builds.
-.PHONY: demo test memcheck
+# `make demo` shows the main job, `make test` is the whole gate, `make lint` its quick part with no proof. `make pins` writes
+# the pinned files anew: promises, floors, and from the last run's logs the facts of the must-fail edits. `make memcheck` runs
+# the C example and a short comparison under valgrind; it needs the static library that demo or test builds.
+.PHONY: demo test lint pins memcheck
 
 demo:
 	@scripts/demo
 
 test:
 	@scripts/gate
+
+lint:
+	@scripts/lint
+
+pins:
+	@scripts/promises --write
+	@scripts/floors --write
+	@scripts/edits --write
 
 memcheck:
 	@scripts/memcheck

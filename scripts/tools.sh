@@ -9,6 +9,7 @@ missing_tool() {
                 rt) echo "missing: rt, the Rattle toolchain ($(head -n 1 TOOLCHAIN)), is not on the PATH" ;;
                 cargo) echo "missing: cargo, Rust's build tool, is not on the PATH" ;;
                 cc) echo "missing: cc, a C compiler, is not on the PATH" ;;
+                python3) echo "missing: python3, Python 3.9 or later, is not on the PATH" ;;
             esac
             return 0
         fi
@@ -16,12 +17,7 @@ missing_tool() {
     return 1
 }
 
-# Every static library of the repository: what C and Rust link, and what only tests do.
+# Every static library of the repository, what C and Rust link and what only tests do: the crates that export functions.
 static_libraries() {
-    local name
-    for name in sframe_c sframe_test; do
-        if [ -d "crates/$name" ]; then
-            echo "$name"
-        fi
-    done
+    grep -lr --include='*.rt' 'pub extern "C" fn ' crates | cut -d/ -f2 | sort -u
 }
