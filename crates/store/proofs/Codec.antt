@@ -11,8 +11,9 @@ use lib.Seq.{drop-at, take-at, drop-drop}
 use borrow.Author.Tests.{leb-true, le-leb, ne-eqb, eqb-true, eqb-false}
 use Rattle.octets.specs.Octets.{Octets, number, bytes, same}
 use Rattle.octets.proofs.Laws.{bytes-length, bytes-octets, number-bytes, number-append, number-lt, octets-append, octets-take, octets-drop, octets-replicate, same-refl, same-eq}
-use Rattle.store.specs.Record.{recordSize, keyRoom, ceiling, KeyRecord, empty, sending, receiving, retired, sendingMark, receivingMark, retiredMark, row, encode, decode, fits, obeys}
-use Rattle.store.proofs.Basics.{Two, yes′, no′, two, both-true, both-and}
+use Rattle.store.specs.Layout.{recordSize, keyRoom, sendingMark, receivingMark, retiredMark, row, encode, decode, fits, obeys, markAt, suiteAt, kidAt, counterAt, saltAt, keyAt}
+use Rattle.store.specs.Record.{ceiling, KeyRecord, empty, sending, receiving, retired}
+use Rattle.answers.proofs.Basics.{Two, yes′, no′, two, both-true, both-and}
 use Rattle.store.specs.Suites.{isSuite, keySize, saltSize}
 use Rattle.store.proofs.Suites.{suite-byte, key-size}
 
@@ -57,16 +58,16 @@ row-octets mark suite kid counter salt key a b p q =
     (octets-append (bytes 8 counter) (salt ++ (key ++ padding)) (bytes-octets 8 counter)
     (octets-append salt (key ++ padding) p (octets-append key padding q (octets-replicate (keyRoom - length key) 0 (omega arith))))))
 
-row-mark : (mark suite kid counter : ℕ) (salt key : List ℕ) → getD (row mark suite kid counter salt key) 0 0 ≡ mark
+row-mark : (mark suite kid counter : ℕ) (salt key : List ℕ) → getD (row mark suite kid counter salt key) markAt 0 ≡ mark
 unfolding row
 row-mark mark suite kid counter salt key = refl
 
 pub record RowRead (l : List ℕ) (suite kid counter : ℕ) (salt key : List ℕ) : Type 0 where
-  pub suite-is : getD l 1 0 ≡ suite
-  pub kid-is : number 8 (drop 4 l) ≡ kid
-  pub counter-is : number 8 (drop 12 l) ≡ counter
-  pub salt-is : take saltSize (drop 20 l) ≡ salt
-  pub key-is : take (length key) (drop 32 l) ≡ key
+  pub suite-is : getD l suiteAt 0 ≡ suite
+  pub kid-is : number 8 (drop kidAt l) ≡ kid
+  pub counter-is : number 8 (drop counterAt l) ≡ counter
+  pub salt-is : take saltSize (drop saltAt l) ≡ salt
+  pub key-is : take (length key) (drop keyAt l) ≡ key
 
 number-front : (v : ℕ) (rest : List ℕ) → v < 2 ^ 64 → number 8 (bytes 8 v ++ rest) ≡ v
 number-front v rest h =
@@ -82,9 +83,9 @@ row-read mark suite kid counter salt key hk hc hs =
     let r3 = bytes 8 counter ++ r4 in
     let r2 = bytes 8 kid ++ r3 in
     let l = (mark ∷ suite ∷ 0 ∷ 0 ∷ []) ++ r2 in
-    let d12 : drop 12 l ≡ r3 = drop-at (bytes 8 kid) r3 8 (bytes-length 8 kid) in
-    let d20 : drop 20 l ≡ r4 = sym (drop-drop 8 12 l) ∙ ap (drop 8) d12 ∙ drop-at (bytes 8 counter) r4 8 (bytes-length 8 counter) in
-    let d32 : drop 32 l ≡ key ++ padding = sym (drop-drop 12 20 l) ∙ ap (drop 12) d20 ∙ drop-at salt (key ++ padding) 12 hs in
+    let d12 : drop counterAt l ≡ r3 = drop-at (bytes 8 kid) r3 8 (bytes-length 8 kid) in
+    let d20 : drop saltAt l ≡ r4 = sym (drop-drop 8 counterAt l) ∙ ap (drop 8) d12 ∙ drop-at (bytes 8 counter) r4 8 (bytes-length 8 counter) in
+    let d32 : drop keyAt l ≡ key ++ padding = sym (drop-drop saltSize saltAt l) ∙ ap (drop saltSize) d20 ∙ drop-at salt (key ++ padding) saltSize hs in
     record {
       suite-is = refl;
       kid-is = number-front kid r3 hk;
@@ -105,23 +106,23 @@ abbrev pub retiredOf : ℕ → ℕ → ℕ → KeyRecord
 retiredOf suite kid counter = retired (record { suite = suite; kid = kid; counter = counter })
 
 module _ (l : List ℕ) where
-  pub read-sending : getD l 0 0 ≡ sendingMark
-      → decode l ≡ sendingOf (getD l 1 0) (number 8 (drop 4 l)) (number 8 (drop 12 l)) (take saltSize (drop 20 l)) (take (keySize (getD l 1 0)) (drop 32 l))
+  pub read-sending : getD l markAt 0 ≡ sendingMark
+      → decode l ≡ sendingOf (getD l suiteAt 0) (number 8 (drop kidAt l)) (number 8 (drop counterAt l)) (take saltSize (drop saltAt l)) (take (keySize (getD l suiteAt 0)) (drop keyAt l))
   unfolding decode
   read-sending e = rw e
 
-  pub read-receiving : getD l 0 0 ≡ receivingMark
-      → decode l ≡ receivingOf (getD l 1 0) (number 8 (drop 4 l)) (take saltSize (drop 20 l)) (take (keySize (getD l 1 0)) (drop 32 l))
+  pub read-receiving : getD l markAt 0 ≡ receivingMark
+      → decode l ≡ receivingOf (getD l suiteAt 0) (number 8 (drop kidAt l)) (take saltSize (drop saltAt l)) (take (keySize (getD l suiteAt 0)) (drop keyAt l))
   unfolding decode
   read-receiving e = rw e
 
-  pub read-retired : getD l 0 0 ≡ retiredMark → decode l ≡ retiredOf (getD l 1 0) (number 8 (drop 4 l)) (number 8 (drop 12 l))
+  pub read-retired : getD l markAt 0 ≡ retiredMark → decode l ≡ retiredOf (getD l suiteAt 0) (number 8 (drop kidAt l)) (number 8 (drop counterAt l))
   unfolding decode
   read-retired e = rw e
 
-  pub read-empty : (getD l 0 0 ≡ sendingMark → ⊥) → (getD l 0 0 ≡ receivingMark → ⊥) → (getD l 0 0 ≡ retiredMark → ⊥) → decode l ≡ empty
+  pub read-empty : (getD l markAt 0 ≡ sendingMark → ⊥) → (getD l markAt 0 ≡ receivingMark → ⊥) → (getD l markAt 0 ≡ retiredMark → ⊥) → decode l ≡ empty
   unfolding decode
-  read-empty a b c = rw (ne-eqb (getD l 0 0) sendingMark a, ne-eqb (getD l 0 0) receivingMark b, ne-eqb (getD l 0 0) retiredMark c)
+  read-empty a b c = rw (ne-eqb (getD l markAt 0) sendingMark a, ne-eqb (getD l markAt 0) receivingMark b, ne-eqb (getD l markAt 0) retiredMark c)
 
 -- ---- a record written is read back
 
@@ -146,9 +147,9 @@ encode-octets (receiving r) f =
 encode-octets (retired r) f =
     row-octets retiredMark (r .suite) (r .kid) (r .counter) (replicate saltSize 0) [] (omega arith) (suite-byte (r .suite) (f .known)) (octets-replicate saltSize 0 (omega arith)) (λ i. omega arith)
 
-key-read : (l : List ℕ) (suite : ℕ) (key : List ℕ) → getD l 1 0 ≡ suite → length key ≡ keySize suite → take (length key) (drop 32 l) ≡ key
-    → take (keySize (getD l 1 0)) (drop 32 l) ≡ key
-key-read l suite key e n k = ap (λ (m : ℕ). take m (drop 32 l)) (ap (keySize) e ∙ sym n) ∙ k
+key-read : (l : List ℕ) (suite : ℕ) (key : List ℕ) → getD l suiteAt 0 ≡ suite → length key ≡ keySize suite → take (length key) (drop keyAt l) ≡ key
+    → take (keySize (getD l suiteAt 0)) (drop keyAt l) ≡ key
+key-read l suite key e n k = ap (λ (m : ℕ). take m (drop keyAt l)) (ap (keySize) e ∙ sym n) ∙ k
 
 pub decode-encode : (r : KeyRecord) → Fit r → decode (encode r) ≡ r
 unfolding encode
@@ -177,37 +178,37 @@ part-length : (n i : ℕ) (l : List ℕ) → length l ≡ recordSize → i + n �
 part-length n i l e h = simp (length-take, length-drop) (omega arith)
 
 module _ (l : List ℕ) (o : Octets l) (n : length l ≡ recordSize) where
-  kid-read : number 8 (drop 4 l) < 2 ^ 64
-  kid-read = number-lt 8 (drop 4 l) (octets-drop 4 l o)
+  kid-read : number 8 (drop kidAt l) < 2 ^ 64
+  kid-read = number-lt 8 (drop kidAt l) (octets-drop kidAt l o)
 
-  secret-read : Secret (getD l 1 0) (take saltSize (drop 20 l)) (take (keySize (getD l 1 0)) (drop 32 l))
+  secret-read : Secret (getD l suiteAt 0) (take saltSize (drop saltAt l)) (take (keySize (getD l suiteAt 0)) (drop keyAt l))
   secret-read =
-      let k = key-size (getD l 1 0) in
+      let k = key-size (getD l suiteAt 0) in
       record {
-        salt-length = part-length saltSize 20 l n (omega arith);
-        salt-octets = octets-take saltSize (drop 20 l) (octets-drop 20 l o);
-        key-length = part-length (keySize (getD l 1 0)) 32 l n (omega arith);
-        key-octets = octets-take (keySize (getD l 1 0)) (drop 32 l) (octets-drop 32 l o);
+        salt-length = part-length saltSize saltAt l n (omega arith);
+        salt-octets = octets-take saltSize (drop saltAt l) (octets-drop saltAt l o);
+        key-length = part-length (keySize (getD l suiteAt 0)) keyAt l n (omega arith);
+        key-octets = octets-take (keySize (getD l suiteAt 0)) (drop keyAt l) (octets-drop keyAt l o);
       }
 
   in-range : fits (decode l) ≡ true → Fit (decode l)
   unfolding fits
-  in-range e = by (two (eqb (getD l 0 0) sendingMark)) (two (eqb (getD l 0 0) receivingMark)) (two (eqb (getD l 0 0) retiredMark))
+  in-range e = by (two (eqb (getD l markAt 0) sendingMark)) (two (eqb (getD l markAt 0) receivingMark)) (two (eqb (getD l markAt 0) retiredMark))
     where
-      by : Two (eqb (getD l 0 0) sendingMark) → Two (eqb (getD l 0 0) receivingMark) → Two (eqb (getD l 0 0) retiredMark) → Fit (decode l)
+      by : Two (eqb (getD l markAt 0) sendingMark) → Two (eqb (getD l markAt 0) receivingMark) → Two (eqb (getD l markAt 0) retiredMark) → Fit (decode l)
       by (yes′ a) b c =
-          let q = read-sending l (eqb-true (getD l 0 0) sendingMark a) in
-          let t = both-true (isSuite (getD l 1 0)) (leb (number 8 (drop 12 l)) ceiling) (rw q at e) in
-          rw q (record { known = t .0; kid-below = kid-read; counter-most = leb-true (number 8 (drop 12 l)) ceiling (t .1) }, secret-read)
+          let q = read-sending l (eqb-true (getD l markAt 0) sendingMark a) in
+          let t = both-true (isSuite (getD l suiteAt 0)) (leb (number 8 (drop counterAt l)) ceiling) (rw q at e) in
+          rw q (record { known = t .0; kid-below = kid-read; counter-most = leb-true (number 8 (drop counterAt l)) ceiling (t .1) }, secret-read)
       by (no′ a) (yes′ b) c =
-          let q = read-receiving l (eqb-true (getD l 0 0) receivingMark b) in
-          let t : isSuite (getD l 1 0) ≡ true = rw q at e in
+          let q = read-receiving l (eqb-true (getD l markAt 0) receivingMark b) in
+          let t : isSuite (getD l suiteAt 0) ≡ true = rw q at e in
           rw q (record { known = t; kid-below = kid-read; counter-most = omega arith }, secret-read)
       by (no′ a) (no′ b) (yes′ c) =
-          let q = read-retired l (eqb-true (getD l 0 0) retiredMark c) in
-          let t = both-true (isSuite (getD l 1 0)) (leb (number 8 (drop 12 l)) ceiling) (rw q at e) in
-          rw q (record { known = t .0; kid-below = kid-read; counter-most = leb-true (number 8 (drop 12 l)) ceiling (t .1) })
-      by (no′ a) (no′ b) (no′ c) = rw (read-empty l (eqb-false (getD l 0 0) sendingMark a) (eqb-false (getD l 0 0) receivingMark b) (eqb-false (getD l 0 0) retiredMark c)) tt
+          let q = read-retired l (eqb-true (getD l markAt 0) retiredMark c) in
+          let t = both-true (isSuite (getD l suiteAt 0)) (leb (number 8 (drop counterAt l)) ceiling) (rw q at e) in
+          rw q (record { known = t .0; kid-below = kid-read; counter-most = leb-true (number 8 (drop counterAt l)) ceiling (t .1) })
+      by (no′ a) (no′ b) (no′ c) = rw (read-empty l (eqb-false (getD l markAt 0) sendingMark a) (eqb-false (getD l markAt 0) receivingMark b) (eqb-false (getD l markAt 0) retiredMark c)) tt
 
 pub obeys-fits : (l : List ℕ) → Octets l → length l ≡ recordSize → obeys l ≡ true → Fit (decode l) × (encode (decode l) ≡ l)
 unfolding obeys

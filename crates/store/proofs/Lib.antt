@@ -1,12 +1,13 @@
-pub mod Addition
-pub mod Basics
 pub mod CipherLaws
 pub mod Codec
-pub mod Judge
+pub mod Fields
+mod Judge
 pub mod Keys
+pub mod KindLaws
+pub mod Places
 mod Removal
-pub mod Rows
+mod Rows
 pub mod Stores
 pub mod Suites
 pub mod Tables
-pub mod Walk
+mod Walk

@@ -11,10 +11,11 @@ use borrow.Rule.Slice.PartMut.{putMid}
 use borrow.Author.Tests.{leb-true, le-leb, eq-eqb, eqb-true}
 use Rattle.octets.specs.Octets.{Octets, both}
 use Rattle.octets.proofs.Laws.{octets-append, octets-take, octets-drop}
-use Rattle.store.specs.Record.{recordSize, KeyRecord, empty, encode, decode, obeys}
+use Rattle.store.specs.Layout.{recordSize, encode, decode, obeys}
+use Rattle.store.specs.Record.{KeyRecord, empty, isEmpty}
 use Rattle.store.specs.Store.{maxRecords, lengthRight, encodeAll, decodeAll, allObey, records, sound}
-use Rattle.store.specs.Table.{holds, isEmpty, get, replace, put, clear, fill, full, apart}
-use Rattle.store.proofs.Basics.{Two, yes′, no′, two, both-true, both-and}
+use Rattle.store.specs.Table.{holds, get, replace, put, clear, fill, full, apart}
+use Rattle.answers.proofs.Basics.{Two, yes′, no′, two, both-true, both-and}
 use Rattle.store.proofs.Codec.{Fit, encode-length, encode-octets, decode-encode, obeys-fits, fits-obeys}
 use Rattle.store.proofs.Tables.{replace-length, put-same, put-other, put-apart, clear-same, clear-other, clear-apart, fill-same, fill-other, fill-apart}
 
@@ -143,45 +144,49 @@ module _ (s : List ℕ) where
     pub stored-length : length s ≡ length rs * recordSize
     stored-length = ap length (sym (t .bytes-are)) ∙ encode-all-length rs (t .table .fit)
 
+-- stores of as many records have as many bytes
+pub stored-lengths : (s t : List ℕ) (rs ts : List KeyRecord) → Stored s rs → Stored t ts → length rs ≡ length ts → length s ≡ length t
+stored-lengths s t rs ts a b e = stored-length s rs a ∙ ap (λ (k : ℕ). k * recordSize) e ∙ sym (stored-length t ts b)
+
 -- ---- a record in the bytes of a store
 
-up : (i : ℕ) → suc i * 80 ≡ 80 + i * 80
+up : (i : ℕ) → suc i * recordSize ≡ recordSize + i * recordSize
 up i = omega arith
 
-past-one : (x : KeyRecord) (rs : List KeyRecord) (i : ℕ) → Fit x → drop (suc i * 80) (encode x ++ encodeAll rs) ≡ drop (i * 80) (encodeAll rs)
+past-one : (x : KeyRecord) (rs : List KeyRecord) (i : ℕ) → Fit x → drop (suc i * recordSize) (encode x ++ encodeAll rs) ≡ drop (i * recordSize) (encodeAll rs)
 past-one x rs i f =
     ap (λ (k : ℕ). drop k (encode x ++ encodeAll rs)) (up i)
-    ∙ sym (drop-drop (i * 80) 80 (encode x ++ encodeAll rs))
-    ∙ ap (drop (i * 80)) (drop-at (encode x) (encodeAll rs) 80 (encode-length x f))
+    ∙ sym (drop-drop (i * recordSize) recordSize (encode x ++ encodeAll rs))
+    ∙ ap (drop (i * recordSize)) (drop-at (encode x) (encodeAll rs) recordSize (encode-length x f))
 
-pub encode-at : (rs : List KeyRecord) (i : ℕ) → AllFit rs → i < length rs → take 80 (drop (i * 80) (encodeAll rs)) ≡ encode (getD rs i empty)
+pub encode-at : (rs : List KeyRecord) (i : ℕ) → AllFit rs → i < length rs → take recordSize (drop (i * recordSize) (encodeAll rs)) ≡ encode (getD rs i empty)
 unfolding encodeAll
 encode-at [] i f h = absurd (omega arith)
-encode-at (r ∷ rs) zero f h = take-at (encode r) (encodeAll rs) 80 (encode-length r (f .0))
-encode-at (r ∷ rs) (suc i) f h = ap (take 80) (past-one r rs i (f .0)) ∙ encode-at rs i (f .1) (omega arith)
+encode-at (r ∷ rs) zero f h = take-at (encode r) (encodeAll rs) recordSize (encode-length r (f .0))
+encode-at (r ∷ rs) (suc i) f h = ap (take recordSize) (past-one r rs i (f .0)) ∙ encode-at rs i (f .1) (omega arith)
 
 pub encode-set : (rs : List KeyRecord) (i : ℕ) (r : KeyRecord) → AllFit rs → i < length rs
-    → encodeAll (set rs i r) ≡ take (i * 80) (encodeAll rs) ++ (encode r ++ drop 80 (drop (i * 80) (encodeAll rs)))
+    → encodeAll (set rs i r) ≡ take (i * recordSize) (encodeAll rs) ++ (encode r ++ drop recordSize (drop (i * recordSize) (encodeAll rs)))
 unfolding encodeAll
 encode-set [] i r f h = absurd (omega arith)
-encode-set (x ∷ rs) zero r f h = ap (λ (t : List ℕ). encode r ++ t) (sym (drop-at (encode x) (encodeAll rs) 80 (encode-length x (f .0))))
+encode-set (x ∷ rs) zero r f h = ap (λ (t : List ℕ). encode r ++ t) (sym (drop-at (encode x) (encodeAll rs) recordSize (encode-length x (f .0))))
 encode-set (x ∷ rs) (suc i) r f h =
     let n = encode-length x (f .0) in
-    let front : take (suc i * 80) (encode x ++ encodeAll rs) ≡ encode x ++ take (i * 80) (encodeAll rs) =
-    ap (λ (k : ℕ). take k (encode x ++ encodeAll rs)) (up i ∙ ap (λ (k : ℕ). k + i * 80) (sym n)) ∙ take-append-add (encode x) (encodeAll rs) (i * 80)
+    let front : take (suc i * recordSize) (encode x ++ encodeAll rs) ≡ encode x ++ take (i * recordSize) (encodeAll rs) =
+    ap (λ (k : ℕ). take k (encode x ++ encodeAll rs)) (up i ∙ ap (λ (k : ℕ). k + i * recordSize) (sym n)) ∙ take-append-add (encode x) (encodeAll rs) (i * recordSize)
     in
     ap (λ (t : List ℕ). encode x ++ t) (encode-set rs i r (f .1) (omega arith))
-    ∙ sym (append-assoc (encode x) (take (i * 80) (encodeAll rs)) (encode r ++ drop 80 (drop (i * 80) (encodeAll rs))))
-    ∙ ap₂ (λ (a b : List ℕ). a ++ (encode r ++ drop 80 b)) (sym front) (sym (past-one x rs i (f .0)))
+    ∙ sym (append-assoc (encode x) (take (i * recordSize) (encodeAll rs)) (encode r ++ drop recordSize (drop (i * recordSize) (encodeAll rs))))
+    ∙ ap₂ (λ (a b : List ℕ). a ++ (encode r ++ drop recordSize b)) (sym front) (sym (past-one x rs i (f .0)))
 
 -- a store with one record changed is its bytes with one row changed
-pub row-changed : (s : List ℕ) (rs : List KeyRecord) → Stored s rs → (i : ℕ) (x q : List ℕ) (end : ℕ) (new : KeyRecord) → i < length rs → end ≡ i * 80 + 80
-    → x ≡ putMid (i * 80) (end - i * 80) s q → q ≡ encode new → x ≡ encodeAll (set rs i new)
+pub row-changed : (s : List ℕ) (rs : List KeyRecord) → Stored s rs → (i : ℕ) (x q : List ℕ) (end : ℕ) (new : KeyRecord) → i < length rs → end ≡ i * recordSize + recordSize
+    → x ≡ putMid (i * recordSize) (end - i * recordSize) s q → q ≡ encode new → x ≡ encodeAll (set rs i new)
 row-changed s rs st i x q end new h n a b =
-    let k : end - i * 80 ≡ 80 = omega arith in
+    let k : end - i * recordSize ≡ recordSize = omega arith in
     a
-    ∙ ap₂ (λ (y : List ℕ) (j : ℕ). take (i * 80) s ++ (y ++ drop j (drop (i * 80) s))) b k
-    ∙ ap (λ (y : List ℕ). take (i * 80) y ++ (encode new ++ drop 80 (drop (i * 80) y))) (sym (st .bytes-are))
+    ∙ ap₂ (λ (y : List ℕ) (j : ℕ). take (i * recordSize) s ++ (y ++ drop j (drop (i * recordSize) s))) b k
+    ∙ ap (λ (y : List ℕ). take (i * recordSize) y ++ (encode new ++ drop recordSize (drop (i * recordSize) y))) (sym (st .bytes-are))
     ∙ sym (encode-set rs i new (st .table .fit) h)
 
 -- ---- one record changed

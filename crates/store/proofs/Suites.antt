@@ -8,7 +8,7 @@ use Rattle.suites.specs.declared.sizes.Suite.{Suite}
 use Rattle.suites.specs.declared.sizes.Found.{Found}
 use Rattle.suites.specs.declared.sizes.Found.the-variants.{Known, Unknown}
 use Rattle.suites.proofs.Laws.{Nk-most, number-is, number-byte}
-use Rattle.store.specs.Record.{keyRoom}
+use Rattle.store.specs.Layout.{keyRoom}
 use Rattle.store.specs.Suites.{withSuite, isSuite, keySize, tagSize}
 
 -- The suite of a number that is a suite's.

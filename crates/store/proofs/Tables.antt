@@ -6,10 +6,10 @@ use Prim.Native.Nat.{ℕ, zero, suc}
 use native.Mathlib.Omega.{arith}
 use lib.ListN.{length, getD, set}
 use borrow.Author.Tests.{eq-eqb, ne-eqb, eqb-true}
-use Rattle.store.specs.Record.{KeyRecord, empty, sending, receiving, retired}
-use Rattle.store.specs.Table.{holds, isEmpty, get, replace, put, clear, fill, full, alone, apart, FreeIn}
+use Rattle.store.specs.Record.{KeyRecord, empty, sending, receiving, retired, isEmpty}
+use Rattle.store.specs.Table.{holds, get, replace, put, clear, fill, full, alone, apart, FreeIn}
+use Rattle.answers.proofs.Basics.{Two, yes′, no′, two, both-true, both-and}
 use Rattle.store.specs.declared.Place.the-variants.{At}
-use Rattle.store.proofs.Basics.{Two, yes′, no′, two, both-true, both-and}
 
 -- ---- one record
 

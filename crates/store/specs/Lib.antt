@@ -1,8 +1,9 @@
-pub mod Answers
 pub mod Calls
 pub mod Cipher
-pub mod Judging
+pub mod Layout
 pub mod Record
+pub mod Sframe
 pub mod Store
 pub mod Suites
 pub mod Table
+pub mod inner

@@ -1,40 +1,8 @@
--- The records of the key store as values, and their form in bytes. Only the form in bytes knows where a field stands.
+-- The records of the key store as values, what each gives, and how it changes. Where its bytes stand is Layout.antt's.
 -- Assumes nothing.
-use mathlib.Core.Bool.{Bool, true}
-use mathlib.Core.List.{List, [], _∷_, _++_}
-use Prim.Native.Nat.{ℕ, _-_, _^_}
-use lib.Dec.{leb, eqb}
-use lib.ListN.{length, getD, take, drop, replicate}
-use Rattle.octets.specs.Octets.{number, bytes, same, pick, both}
-use Rattle.store.specs.Suites.{isSuite, keySize, saltSize}
-
--- ---- sizes
-
-abbrev pub recordSize : ℕ
-recordSize = 80
-
--- where its fields stand: the suite, the two reserved bytes, the KID, the next counter, the salt and the key
-abbrev pub suiteAt : ℕ
-suiteAt = 1
-
-abbrev pub reservedAt : ℕ
-reservedAt = 2
-
-abbrev pub kidAt : ℕ
-kidAt = 4
-
-abbrev pub counterAt : ℕ
-counterAt = 12
-
-abbrev pub saltAt : ℕ
-saltAt = 20
-
-abbrev pub keyAt : ℕ
-keyAt = 32
-
--- what a record has for a key, which is the longest Nk
-abbrev pub keyRoom : ℕ
-keyRoom = 48
+use mathlib.Core.Bool.{Bool, true, false}
+use mathlib.Core.List.{List, []}
+use Prim.Native.Nat.{ℕ, _+_, _^_}
 
 -- no counter reaches this
 abbrev pub ceiling : ℕ
@@ -69,49 +37,60 @@ pub data KeyRecord : Type 0 where
   receiving : ReceivingKey → KeyRecord
   retired : RetiredKey → KeyRecord
 
--- ---- the form in bytes
+-- ---- what a record gives
 
--- byte 0
-abbrev pub sendingMark : ℕ
-sendingMark = 1
+abbrev pub isEmpty : KeyRecord → Bool
+isEmpty empty = true
+isEmpty (sending r) = false
+isEmpty (receiving r) = false
+isEmpty (retired r) = false
 
-abbrev pub receivingMark : ℕ
-receivingMark = 2
+abbrev pub isSending : KeyRecord → Bool
+isSending empty = false
+isSending (sending r) = true
+isSending (receiving r) = false
+isSending (retired r) = false
 
-abbrev pub retiredMark : ℕ
-retiredMark = 3
+abbrev pub isReceiving : KeyRecord → Bool
+isReceiving empty = false
+isReceiving (sending r) = false
+isReceiving (receiving r) = true
+isReceiving (retired r) = false
 
--- Mark, suite, two zeros, KID, next counter, salt, key, zeros up to the record's end.
-unfoldable pub row : ℕ → ℕ → ℕ → ℕ → List ℕ → List ℕ → List ℕ
-row mark suite kid counter salt key =
-    (mark ∷ suite ∷ 0 ∷ 0 ∷ []) ++ (bytes 8 kid ++ (bytes 8 counter ++ (salt ++ (key ++ replicate (keyRoom - length key) 0))))
+abbrev pub isRetired : KeyRecord → Bool
+isRetired empty = false
+isRetired (sending r) = false
+isRetired (receiving r) = false
+isRetired (retired r) = true
 
-unfoldable pub encode : KeyRecord → List ℕ
-encode empty = replicate recordSize 0
-encode (sending r) = row sendingMark (r .suite) (r .kid) (r .counter) (r .salt) (r .key)
-encode (receiving r) = row receivingMark (r .suite) (r .kid) 0 (r .salt) (r .key)
-encode (retired r) = row retiredMark (r .suite) (r .kid) (r .counter) (replicate saltSize 0) []
+abbrev pub suiteOf : KeyRecord → ℕ
+suiteOf empty = 0
+suiteOf (sending r) = r .suite
+suiteOf (receiving r) = r .suite
+suiteOf (retired r) = r .suite
 
--- A record's bytes as a record; bytes with no mark that is known count as empty.
-unfoldable pub decode : List ℕ → KeyRecord
-decode l =
-    let mark = getD l 0 0 in
-    let suite = getD l suiteAt 0 in
-    let kid = number 8 (drop kidAt l) in
-    let counter = number 8 (drop counterAt l) in
-    let salt = take saltSize (drop saltAt l) in
-    let key = take (keySize suite) (drop keyAt l) in
-    pick (eqb mark sendingMark) (sending (record { suite = suite; kid = kid; counter = counter; salt = salt; key = key }))
-    (pick (eqb mark receivingMark) (receiving (record { suite = suite; kid = kid; salt = salt; key = key }))
-    (pick (eqb mark retiredMark) (retired (record { suite = suite; kid = kid; counter = counter })) empty))
+abbrev pub saltOf : KeyRecord → List ℕ
+saltOf empty = []
+saltOf (sending r) = r .salt
+saltOf (receiving r) = r .salt
+saltOf (retired r) = []
 
--- A record's values are in range.
-unfoldable pub fits : KeyRecord → Bool
-fits empty = true
-fits (sending r) = both (isSuite (r .suite)) (leb (r .counter) ceiling)
-fits (receiving r) = isSuite (r .suite)
-fits (retired r) = both (isSuite (r .suite)) (leb (r .counter) ceiling)
+abbrev pub keyOf : KeyRecord → List ℕ
+keyOf empty = []
+keyOf (sending r) = r .key
+keyOf (receiving r) = r .key
+keyOf (retired r) = []
 
--- A record's bytes obey their row: they are those of the record they are read as, and its values are in range.
-unfoldable pub obeys : List ℕ → Bool
-obeys l = both (same (encode (decode l)) l) (fits (decode l))
+-- The next counter; 0 where there is none.
+abbrev pub counterOf : KeyRecord → ℕ
+counterOf empty = 0
+counterOf (sending r) = r .counter
+counterOf (receiving r) = 0
+counterOf (retired r) = r .counter
+
+-- The record once its next counter is taken.
+unfoldable pub advanced : KeyRecord → KeyRecord
+advanced empty = empty
+advanced (sending r) = sending (record { suite = r .suite; kid = r .kid; counter = r .counter + 1; salt = r .salt; key = r .key })
+advanced (receiving r) = receiving r
+advanced (retired r) = retired r

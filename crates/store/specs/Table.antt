@@ -7,7 +7,7 @@ use Prim.Native.Nat.{ℕ, _<_}
 use lib.Dec.{eqb}
 use lib.ListN.{length, getD}
 use Rattle.octets.specs.Octets.{pick, both}
-use Rattle.store.specs.Record.{KeyRecord, empty, sending, receiving, retired}
+use Rattle.store.specs.Record.{KeyRecord, empty, sending, receiving, retired, isEmpty}
 use Rattle.store.specs.declared.Place.{Place}
 use Rattle.store.specs.declared.Place.the-variants.{At, Nowhere}
 
@@ -18,24 +18,18 @@ holds kid (sending r) = eqb (r .kid) kid
 holds kid (receiving r) = eqb (r .kid) kid
 holds kid (retired r) = eqb (r .kid) kid
 
-abbrev pub isEmpty : KeyRecord → Bool
-isEmpty empty = true
-isEmpty (sending r) = false
-isEmpty (receiving r) = false
-isEmpty (retired r) = false
-
 -- The record that holds a KID; the empty one where none does.
 unfoldable pub get : ℕ → List KeyRecord → KeyRecord
 get kid [] = empty
 get kid (r ∷ rs) = pick (holds kid r) r (get kid rs)
 
 -- The table with r for the first record that passes the test.
-unfoldable pub replace : (KeyRecord → Bool) → KeyRecord → List KeyRecord → List KeyRecord
+unfoldable pub replace : (test : KeyRecord → Bool) (r : KeyRecord) (rs : List KeyRecord) → List KeyRecord
 replace test r [] = []
 replace test r (x ∷ xs) = pick (test x) (r ∷ xs) (x ∷ replace test r xs)
 
 -- with r for the record that holds the KID
-unfoldable pub put : ℕ → KeyRecord → List KeyRecord → List KeyRecord
+unfoldable pub put : (kid : ℕ) (r : KeyRecord) (rs : List KeyRecord) → List KeyRecord
 put kid r rs = replace (holds kid) r rs
 
 -- without the record that holds the KID
@@ -64,7 +58,7 @@ apart [] = true
 apart (r ∷ rs) = both (alone r rs) (apart rs)
 
 -- What is found of a KID: the number of the record that holds it, or that none does.
-abbrev pub FoundIn : Place → ℕ → List KeyRecord → Type 0
+abbrev pub FoundIn : (place : Place) (kid : ℕ) (rs : List KeyRecord) → Type 0
 FoundIn (At i) kid rs = (i < length rs) × (get kid rs ≡ getD rs i empty) × (holds kid (getD rs i empty) ≡ true)
 FoundIn Nowhere kid rs = get kid rs ≡ empty
 

@@ -3,12 +3,14 @@ use Prim.Native.Nat.{_-_, _%_, _≤_}
 use native.Mathlib.Omega.{arith}
 use lib.ListN.{length}
 use borrow.Author.Needs.{needs}
+use Rattle.store.specs.Store.{records}
 use Rattle.store.proofs.Walk.{NoneFree, free-here, free-go, free-end}
+use Rattle.store.specs.Layout.{recordSize}
 use Rattle.store.proofs.find_free.Statement.{statement}
 use Rattle.store.proofs.find_free.Tie as tie
 
 abbrev Inv-loop : tie.InvT-loop
-Inv-loop store at₀ at = (at ≤ length store) × (at % 80 ≡ 0) × NoneFree store at
+Inv-loop store at₀ at = (at ≤ length store) × (at % recordSize ≡ 0) × NoneFree store at
 
 abbrev μ-loop : tie.MeasureT-loop
 μ-loop store at₀ at = length store - at
@@ -16,13 +18,29 @@ abbrev μ-loop : tie.MeasureT-loop
 loop-holds : tie.Need-loop-holds Inv-loop μ-loop
 loop-holds c = (omega arith, refl, λ j h. absurd (omega arith))
 
+-- ---- points of the program, each reached from a later one
+
+abbrev to-loop-head-from-then1 : tie.Then1 Inv-loop μ-loop → tie.At-loop Inv-loop μ-loop
+to-loop-head-from-then1 c = c .before .before .before .before
+
+abbrev to-loop-head-from-else1 : tie.Else1 Inv-loop μ-loop → tie.At-loop Inv-loop μ-loop
+to-loop-head-from-else1 c = c .before .before .before .before
+
+-- ----
+
 returns : tie.Need-returns Inv-loop μ-loop
-returns c = free-here (c .before .before .before .before .before .before .args .store .now) (c .before .before .before .before .loop .at) (c .before .before .before .before .before .before .pre) (c .before .before .before .loop-test .taken) (c .before .before .before .before .loop .inv .1) _ (c .before .is-held .ensures) (c .if1 .taken) (c .before .before .before .before .loop .inv .2)
+unfolding records
+returns c =
+    let at-loop-head = to-loop-head-from-then1 c in
+    free-here (at-loop-head .before .before .args .store .now) (at-loop-head .loop .at) (at-loop-head .before .before .pre) (c .before .before .before .loop-test .taken) (at-loop-head .loop .inv .1) _ (c .before .is-held .ensures) (c .if1 .taken) (at-loop-head .loop .inv .2)
 
 loop-again : tie.Need-loop-again Inv-loop μ-loop
-loop-again c = (omega arith, omega arith, free-go (c .before .before .before .before .before .before .args .store .now) (c .before .before .before .before .loop .at) (c .before .before .before .before .before .before .pre) (c .before .before .before .loop-test .taken) (c .before .before .before .before .loop .inv .1) _ (c .before .is-held .ensures) (c .if1 .left) (c .before .before .before .before .loop .inv .2))
+loop-again c =
+    let at-loop-head = to-loop-head-from-else1 c in
+    (omega arith, omega arith, free-go (at-loop-head .before .before .args .store .now) (at-loop-head .loop .at) (at-loop-head .before .before .pre) (c .before .before .before .loop-test .taken) (at-loop-head .loop .inv .1) _ (c .before .is-held .ensures) (c .if1 .left) (at-loop-head .loop .inv .2))
 
 returns-2 : tie.Need-returns-2 Inv-loop μ-loop
+unfolding records
 returns-2 c = free-end (c .before .before .before .args .store .now) (c .before .loop .at) (c .before .before .before .pre) (omega arith) (c .before .loop .inv .2)
 
 pub find-free-spec : {M : Type 1} → statement M

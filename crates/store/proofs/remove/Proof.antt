@@ -1,51 +1,134 @@
-use mathlib.Core.Path.{refl}
-use Prim.Native.Nat.{_+_, _*_, _≤_}
+use mathlib.Core.Path.{_≡_, refl, sym, _∙_, ap}
 use native.Mathlib.Omega.{arith}
-use lib.ListN.{length}
 use borrow.Author.Needs.{needs}
-use Rattle.store.proofs.Removal.{remove-unsound, removal-whole, remove-missing, place-inside, remove-retired, remove-receiving, remove-sending}
+use Rattle.store.specs.inner.Rows.{Within, kindOf}
+use Rattle.store.proofs.Places.{tested-sound, tested-whole, found-within}
+use Rattle.store.proofs.Removal.{remove-unsound, remove-missing, remove-empty, remove-retired, remove-receiving, sender-sends, remove-sending}
 use Rattle.store.proofs.remove.Statement.{statement}
 use Rattle.store.proofs.remove.Tie as tie
 
+-- ---- points of the program, each reached from a later one
+
+abbrev to-start-from-then1 : tie.Then1 → tie.Start
+to-start-from-then1 c = c .before .before .before .before
+
+abbrev to-start-from-else1 : tie.Else1 → tie.Start
+to-start-from-else1 c = c .before .before .before .before
+
+abbrev to-slice-known-from-find-arg : tie.After-find-arg → tie.After-slice-known
+to-slice-known-from-find-arg c = c .before .before .before .before
+
+abbrev to-slice-known-from-find : tie.After-find → tie.After-slice-known
+to-slice-known-from-find c = c .before .before .before .before .before
+
+abbrev to-else1-from-i : tie.After-i → tie.Else1
+to-else1-from-i c = c .before .before .before .before
+
+abbrev to-else1-from-enum-told : tie.After-enum-told → tie.Else1
+to-else1-from-enum-told c = c .before .before .before .before
+
+abbrev to-find-from-row-at-arg : tie.After-row-at-arg → tie.After-find
+to-find-from-row-at-arg c = c .before .before .before .before
+
+abbrev to-find-from-row-at : tie.After-row-at → tie.After-find
+to-find-from-row-at c = c .before .before .before .before .before
+
+abbrev to-i-from-enum-told2 : tie.After-enum-told2 → tie.After-i
+to-i-from-enum-told2 c = c .before .before .before .before .before .before
+
+abbrev to-row-at : tie.After-retire-at-arg → tie.After-row-at
+to-row-at c = c .before .before .before .before
+
+abbrev to-enum-told2 : tie.After-slice-known2 → tie.After-enum-told2
+to-enum-told2 c = c .before .before .before .before
+
+abbrev to-i-from-enum-told3 : tie.After-enum-told3 → tie.After-i
+to-i-from-enum-told3 c = c .before .before .before .before .before .before
+
+abbrev to-i-from-clear-at-arg : tie.After-clear-at-arg → tie.After-i
+to-i-from-clear-at-arg c = c .before .before .before .before .before .before .before
+
+abbrev to-enum-told3 : tie.After-slice-known3 → tie.After-enum-told3
+to-enum-told3 c = c .before .before .before .before
+
+abbrev to-i-from-enum-told4 : tie.After-enum-told4 → tie.After-i
+to-i-from-enum-told4 c = c .before .before .before .before .before .before
+
+abbrev to-i-from-enum-told5 : tie.After-enum-told5 → tie.After-i
+to-i-from-enum-told5 c = c .before .before .before .before .before .before
+
+-- ----
+
 returns : tie.Need-returns
-returns c = remove-unsound (c .before .before .before .before .args .store .now) _ _ (c .before .is-sound .ensures) (c .if1 .taken)
+returns c =
+    let at-start = to-start-from-then1 c in
+    remove-unsound (at-start .args .store .now) _ _ (c .before .is-sound .ensures) (c .if1 .taken)
 
 find-requires : tie.Need-find-requires
-find-requires c κs = removal-whole (c .before .before .before .before .before .args .store .now) 0 (λ j. omega (arith, c .before .before .before .before .slice-known .given j)) _ (c .before .before .is-sound .ensures) (c .before .if1 .left)
+find-requires c κs =
+    let at-slice-known = to-slice-known-from-find-arg c in
+    tested-whole (at-slice-known .before .args .store .now) (λ j. omega (arith, at-slice-known .slice-known .given j)) _ (c .before .before .is-sound .ensures) (c .before .if1 .left)
 
 returns-2 : tie.Need-returns-2
-returns-2 c = remove-missing (c .before .before .before .before .before .before .before .before .args .store .now) _ (λ j. omega (arith, c .before .before .before .before .before .before .before .slice-known .given j)) _ (c .before .before .before .before .before .is-sound .ensures) (c .before .before .before .before .if1 .left) _ (c .before .before .find .ensures) (c .enum-told .given .1)
+returns-2 c =
+    let at-else1 = to-else1-from-enum-told c in
+    let at-start = to-start-from-else1 at-else1 in
+    remove-missing (at-start .args .store .now) _ (tested-sound (at-start .args .store .now) (λ j. omega (arith, at-else1 .before .before .before .slice-known .given j)) _ (at-else1 .before .is-sound .ensures) (at-else1 .if1 .left)) _ (c .before .before .find .ensures) (c .enum-told .given .1)
 
--- the record that was found lies within the store
-inside : (c : tie.After-known-told) → c .before .i .given .0 .0 * 80 + 80 ≤ length (c .before .before .before .before .before .before .before .before .before .args .store .now)
-inside c = place-inside (c .before .before .before .before .before .before .before .before .before .args .store .now) _ (λ j. omega (arith, c .before .before .before .before .before .before .before .before .slice-known .given j)) _ (c .before .before .before .before .before .before .is-sound .ensures) (c .before .before .before .before .before .if1 .left) _ (c .before .before .before .find .ensures) _ (c .before .i .given .1)
+row-at-requires : tie.Need-row-at-requires
+row-at-requires c κs =
+    let at-find = to-find-from-row-at-arg c in
+    let at-slice-known = to-slice-known-from-find at-find in
+    found-within (at-slice-known .before .args .store .now) _ _ _ (tested-sound (at-slice-known .before .args .store .now) (λ j. omega (arith, at-slice-known .slice-known .given j)) _ (at-find .before .before .before .is-sound .ensures) (at-find .before .before .if1 .left)) (at-find .find .ensures) (c .before .before .i .given .1)
 
-mul-at : tie.Need-mul-at
-mul-at c = omega (arith, inside c)
+kind-of-requires : tie.Need-kind-of-requires
+kind-of-requires c κs = c .row-at .ensures .0 .0
 
-add-end : tie.Need-add-end
-add-end c = omega (arith, inside c)
+retire-at-requires : tie.Need-retire-at-requires
+retire-at-requires c κs =
+    let at-row-at = to-row-at c in
+    let at-find = to-find-from-row-at at-row-at in
+    let at-slice-known = to-slice-known-from-find at-find in (
+      found-within (at-slice-known .before .args .store .now) _ _ _ (tested-sound (at-slice-known .before .args .store .now) (λ j. omega (arith, at-slice-known .slice-known .given j)) _ (at-find .before .before .before .is-sound .ensures) (at-find .before .before .if1 .left)) (at-find .find .ensures) (at-row-at .before .before .before .i .given .1),
+      sender-sends (at-slice-known .before .args .store .now) _ (tested-sound (at-slice-known .before .args .store .now) (λ j. omega (arith, at-slice-known .slice-known .given j)) _ (at-find .before .before .before .is-sound .ensures) (at-find .before .before .if1 .left)) (λ j. omega (arith, at-slice-known .slice-known .given j)) _ (at-find .find .ensures) _ (at-row-at .before .before .before .i .given .1) _ (c .before .before .before .kind-of .ensures ∙ ap kindOf (at-row-at .row-at .ensures .1)) (c .before .enum-told2 .given .1),
+    )
 
-slice-read-if2 : tie.Need-slice-read-if2
-slice-read-if2 c = omega (arith, inside (c .before))
+clear-at-requires : tie.Need-clear-at-requires
+clear-at-requires c κs =
+    let at-i = to-i-from-clear-at-arg c in
+    let at-else1 = to-else1-from-i at-i in
+    let at-start = to-start-from-else1 at-else1 in
+    found-within (at-start .args .store .now) _ _ _ (tested-sound (at-start .args .store .now) (λ j. omega (arith, at-else1 .before .before .before .slice-known .given j)) _ (at-else1 .before .is-sound .ensures) (at-else1 .if1 .left)) (at-i .before .before .find .ensures) (at-i .i .given .1)
 
 returns-3 : tie.Need-returns-3
-returns-3 c = remove-retired (c .before .before .before .before .before .before .before .before .before .before .before .args .store .now) _ (λ j. omega (arith, c .before .before .before .before .before .before .before .before .before .before .slice-known .given j)) _ (c .before .before .before .before .before .before .before .before .is-sound .ensures) (c .before .before .before .before .before .before .before .if1 .left) _ (c .before .before .before .before .before .find .ensures) _ (c .before .before .before .i .given .1) (c .if2 .taken)
-
-slice-read-if3 : tie.Need-slice-read-if3
-slice-read-if3 c = omega (arith, inside (c .before .before .before))
-
-part-clear-end : tie.Need-part-clear-end
-part-clear-end c = omega (arith, inside (c .before .before .before .before))
+returns-3 c =
+    let at-enum-told2 = to-enum-told2 c in
+    let at-i = to-i-from-enum-told2 at-enum-told2 in
+    let at-else1 = to-else1-from-i at-i in
+    let at-start = to-start-from-else1 at-else1 in
+    remove-sending (at-start .args .store .now) _ (tested-sound (at-start .args .store .now) (λ j. omega (arith, at-else1 .before .before .before .slice-known .given j)) _ (at-else1 .before .is-sound .ensures) (at-else1 .if1 .left)) (λ j. omega (arith, at-else1 .before .before .before .slice-known .given j)) _ (at-i .before .before .find .ensures) _ (at-i .i .given .1) _ (at-enum-told2 .before .before .kind-of .ensures ∙ ap kindOf (at-enum-told2 .before .before .before .row-at .ensures .1)) _ (at-enum-told2 .enum-told2 .given .1) (c .before .before .retire-at .ensures)
 
 returns-4 : tie.Need-returns-4
-returns-4 c = remove-receiving (c .before .before .before .before .before .before .before .before .before .before .before .before .before .before .before .before .before .args .store .now) _ (λ j. omega (arith, c .before .before .before .before .before .before .before .before .before .before .before .before .before .before .before .before .slice-known .given j)) _ (c .before .before .before .before .before .before .before .before .before .before .before .before .before .before .is-sound .ensures) (c .before .before .before .before .before .before .before .before .before .before .before .before .before .if1 .left) _ (c .before .before .before .before .before .before .before .before .before .before .before .find .ensures) _ (c .before .before .before .before .before .before .before .before .before .i .given .1) _ _ _ refl (c .before .before .before .before .if3 .taken) refl (c .before .before .clear .ensures)
-
-part-retire-row-end : tie.Need-part-retire-row-end
-part-retire-row-end c = omega (arith, inside (c .before .before .before .before))
+returns-4 c =
+    let at-enum-told3 = to-enum-told3 c in
+    let at-i = to-i-from-enum-told3 at-enum-told3 in
+    let at-else1 = to-else1-from-i at-i in
+    let at-start = to-start-from-else1 at-else1 in
+    remove-receiving (at-start .args .store .now) _ (tested-sound (at-start .args .store .now) (λ j. omega (arith, at-else1 .before .before .before .slice-known .given j)) _ (at-else1 .before .is-sound .ensures) (at-else1 .if1 .left)) (λ j. omega (arith, at-else1 .before .before .before .slice-known .given j)) _ (at-i .before .before .find .ensures) _ (at-i .i .given .1) _ (at-enum-told3 .before .before .kind-of .ensures ∙ ap kindOf (at-enum-told3 .before .before .before .row-at .ensures .1)) _ (at-enum-told3 .enum-told3 .given .1) (c .before .before .clear-at .ensures)
 
 returns-5 : tie.Need-returns-5
-returns-5 c = remove-sending (c .before .before .before .before .before .before .before .before .before .before .before .before .before .before .before .before .before .args .store .now) _ (λ j. omega (arith, c .before .before .before .before .before .before .before .before .before .before .before .before .before .before .before .before .slice-known .given j)) _ (c .before .before .before .before .before .before .before .before .before .before .before .before .before .before .is-sound .ensures) (c .before .before .before .before .before .before .before .before .before .before .before .before .before .if1 .left) _ (c .before .before .before .before .before .before .before .before .before .before .before .find .ensures) _ (c .before .before .before .before .before .before .before .before .before .i .given .1) _ _ _ refl (c .before .before .before .before .before .before .if2 .left) (c .before .before .before .before .if3 .left) refl (c .before .before .retire-row .ensures)
+returns-5 c =
+    let at-i = to-i-from-enum-told4 c in
+    let at-else1 = to-else1-from-i at-i in
+    let at-start = to-start-from-else1 at-else1 in
+    remove-retired (at-start .args .store .now) _ (tested-sound (at-start .args .store .now) (λ j. omega (arith, at-else1 .before .before .before .slice-known .given j)) _ (at-else1 .before .is-sound .ensures) (at-else1 .if1 .left)) (λ j. omega (arith, at-else1 .before .before .before .slice-known .given j)) _ (at-i .before .before .find .ensures) _ (at-i .i .given .1) _ (c .before .before .kind-of .ensures ∙ ap kindOf (c .before .before .before .row-at .ensures .1)) (c .enum-told4 .given .1)
+
+returns-6 : tie.Need-returns-6
+returns-6 c =
+    let at-i = to-i-from-enum-told5 c in
+    let at-else1 = to-else1-from-i at-i in
+    let at-start = to-start-from-else1 at-else1 in
+    absurd (remove-empty (at-start .args .store .now) _ (tested-sound (at-start .args .store .now) (λ j. omega (arith, at-else1 .before .before .before .slice-known .given j)) _ (at-else1 .before .is-sound .ensures) (at-else1 .if1 .left)) (λ j. omega (arith, at-else1 .before .before .before .slice-known .given j)) _ (at-i .before .before .find .ensures) _ (at-i .i .given .1) _ (c .before .before .kind-of .ensures ∙ ap kindOf (c .before .before .before .row-at .ensures .1)) (c .enum-told5 .given .1))
 
 pub remove-spec : {M : Type 1} → statement M
 remove-spec =
@@ -59,21 +142,19 @@ remove-spec =
     (λ c. search needs)
     (λ c. search needs)
     returns-2
-    mul-at
-    add-end
-    slice-read-if2
+    row-at-requires
+    kind-of-requires
+    (λ c. search needs)
+    retire-at-requires
+    (λ c. search needs)
+    clear-at-requires
+    (λ c. search needs)
+    (λ c. search needs)
     (λ c. search needs)
     returns-3
-    slice-read-if3
-    (λ c. search needs)
-    (λ c. search needs)
-    part-clear-end
-    (λ c κs. search needs)
     (λ c. search needs)
     returns-4
     (λ c. search needs)
+    returns-5
     (λ c. search needs)
-    part-retire-row-end
-    (λ c κs. search needs)
-    (λ c. search needs)
-    returns-5)
+    returns-6)

@@ -1,0 +1,50 @@
+use mathlib.Core.Path.{refl, sym, _∙_, ap}
+use Prim.Native.Nat.{ℕ, _+_, _*_, _<_, _≤_}
+use native.Mathlib.Omega.{arith}
+use lib.ListN.{length}
+use borrow.Author.Needs.{needs}
+use Rattle.store.specs.Layout.{recordSize, encode, decode}
+use Rattle.store.proofs.Places.{place-inside, place-row, place-changed}
+use Rattle.store.proofs.clear_at.Statement.{statement}
+use Rattle.store.proofs.clear_at.Tie as tie
+
+-- ---- points of the program, each reached from a later one
+
+abbrev to-slice-known : tie.After-slice-known2 → tie.After-slice-known
+to-slice-known c = c .before .before .before .before
+
+-- ----
+
+-- the entry, and that the record lies within the store
+inside : (c : tie.After-slice-known) → c .before .args .i * recordSize + recordSize ≤ length (c .before .args .store .now)
+inside c = let p = c .before in place-inside (p .args .store .now) (p .args .i) (p .pre)
+
+mul-at : tie.Need-mul-at
+mul-at c = omega (arith, inside c)
+
+add-end : tie.Need-add-end
+add-end c = omega (arith, inside c)
+
+part-clear-end : tie.Need-part-clear-end
+part-clear-end c = omega (arith, inside c)
+
+clear-requires : tie.Need-clear-requires
+clear-requires c κs = let p = c .before .before in place-row (p .args .store .now) (p .args .i) (p .pre) _ refl .0 .0
+
+returns : tie.Need-returns
+returns c =
+    let at-slice-known = to-slice-known c in
+    let p = at-slice-known .before in place-changed (p .args .store .now) (p .args .i) (p .pre) _ refl (λ j. omega (arith, at-slice-known .slice-known .given j)) _ _ _ refl (c .before .before .clear .ensures)
+
+pub clear-at-spec : {M : Type 1} → statement M
+clear-at-spec =
+    tie.close
+    (tie.spec
+    mul-at
+    add-end
+    (λ c. search needs)
+    (λ c. search needs)
+    part-clear-end
+    clear-requires
+    (λ c. search needs)
+    returns)
