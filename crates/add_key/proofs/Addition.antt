@@ -1,0 +1,101 @@
+-- What an Add answers, cause by cause, over plain variables. Assumes nothing.
+use mathlib.Core.Path.{_≡_, refl, sym, _∙_, ap}
+use mathlib.Core.Bool.{Bool, true, false, not}
+use mathlib.Core.List.{List, [], _∷_}
+use Prim.Native.Nat.{ℕ, _<_, _≤_}
+use lib.ListN.{length, getD, set}
+use borrow.Author.Tests.{le-leb, lt-leb}
+use Rattle.answers.specs.Answers.{done, storeInvalid, suiteUnknown, baseKeySize, kidHeld, storeFull, _if_, first, Outcome, settled}
+use Rattle.answers.specs.Limits.{baseKeyLeast, baseKeyMost}
+use Rattle.suites.specs.Suites.{numberOf}
+use Rattle.suites.specs.declared.sizes.Suite.{Suite}
+use Rattle.suites.proofs.Laws.{number-known}
+use Rattle.store.specs.Calls.{stored}
+use Rattle.store.specs.Cipher.{Cipher}
+use Rattle.store.specs.Record.{KeyRecord, empty, isEmpty}
+use Rattle.store.specs.Sframe.{keyFor, saltFor, sframe}
+use Rattle.store.specs.Store.{encodeAll, records, sound}
+use Rattle.store.specs.Suites.{isSuite}
+use Rattle.store.specs.Table.{get, fill, full, FoundIn, FreeIn}
+use Rattle.store.specs.inner.Rows.{fresh}
+use Rattle.store.specs.declared.Place.{Place}
+use Rattle.store.specs.declared.Place.the-variants.{At, Nowhere}
+use Rattle.store.specs.declared.Role.{Role}
+use Rattle.store.specs.declared.Role.the-variants.{Sending, Receiving}
+use Rattle.answers.proofs.Basics.{told-false, told-true}
+use Rattle.store.proofs.Tables.{holds-some, fill-at}
+use Rattle.add_key.specs.Add.{added, addCauses, addAt, add}
+
+-- the record of a new key is the one that the definition adds
+fresh-added : (role : Role) (s : Suite) (kid : ℕ) (base : List ℕ) → fresh role s kid base ≡ added sframe role kid (numberOf s) base
+unfolding added keyFor saltFor
+fresh-added Sending s kid base = rw (number-known s)
+fresh-added Receiving s kid base = rw (number-known s)
+
+pub added-told : (role : Role) (s : Suite) (kid suite : ℕ) (base : List ℕ) → suite ≡ numberOf s → fresh role s kid base ≡ added sframe role kid suite base
+added-told role s kid suite base e = fresh-added role s kid base ∙ ap (λ (k : ℕ). added sframe role kid k base) (sym e)
+
+pub free-empty : (rs : List KeyRecord) (i : ℕ) (p : Place) → FreeIn p rs → p ≡ At i → isEmpty (getD rs i empty) ≡ true
+free-empty rs i p f w = let g : FreeIn (At i) rs = rw w at f in g .1
+
+-- what an Add answers, and what it leaves in the store
+abbrev Answers : ℕ → List ℕ → Outcome → Type 0
+Answers n s o = (n ≡ o .number) × (s ≡ o .store)
+
+answers : (o p : Outcome) → o ≡ p → Answers (p .number) (p .store) o
+answers o p e = (sym (ap (λ (x : Outcome). x .number) e), sym (ap (λ (x : Outcome). x .store) e))
+
+module _ (cipher : Cipher) (s : List ℕ) (role : Role) (kid suite : ℕ) (base : List ℕ) (r : Bool) (e : r ≡ sound s) where
+  pub add-unsound : not r ≡ true → Answers storeInvalid s (add cipher s role kid suite base)
+  unfolding add addAt addCauses first settled
+  add-unsound t = let f = told-false r _ e t in (rw f, rw f)
+
+  module _ (t : not r ≡ false) where
+    is-sound : sound s ≡ true
+    is-sound = told-true r _ e t
+
+    pub add-suite : isSuite suite ≡ false → Answers suiteUnknown s (add cipher s role kid suite base)
+    unfolding add addAt addCauses first settled
+    add-suite u = (rw (is-sound, u), rw (is-sound, u))
+
+    module _ (u : isSuite suite ≡ true) where
+      pub add-short : length base < baseKeyLeast → Answers baseKeySize s (add cipher s role kid suite base)
+      unfolding add addAt addCauses first settled
+      add-short h = let b = lt-leb baseKeyLeast (length base) h in (rw (is-sound, u, b), rw (is-sound, u, b))
+
+      module _ (h : baseKeyLeast ≤ length base) where
+        pub add-long : baseKeyMost < length base → Answers baseKeySize s (add cipher s role kid suite base)
+        unfolding add addAt addCauses first settled
+        add-long k =
+            let b = le-leb baseKeyLeast (length base) h in
+            let c = lt-leb (length base) baseKeyMost k in
+            (rw (is-sound, u, b, c), rw (is-sound, u, b, c))
+
+        module _ (k : length base ≤ baseKeyMost) (p : Place) (f : FoundIn p kid (records s)) where
+          -- what Add comes to once these are judged
+          outcome-of : (free whole : Bool) → isEmpty (get kid (records s)) ≡ free → full (records s) ≡ whole
+              → add cipher s role kid suite base ≡ settled (first ((kidHeld if not free) ∷ (storeFull if whole) ∷ [])) s [] (stored (encodeAll (fill (added cipher role kid suite base) (records s))))
+          unfolding add addAt addCauses first
+          outcome-of free whole g q = rw (is-sound, u, le-leb baseKeyLeast (length base) h, le-leb (length base) baseKeyMost k, g, q)
+
+          pub add-held : (i : ℕ) → p ≡ At i → Answers kidHeld s (add cipher s role kid suite base)
+          unfolding first settled
+          add-held i w =
+              let g : FoundIn (At i) kid (records s) = rw w at f in
+              answers _ _ (outcome-of false (full (records s)) (ap isEmpty (g .1) ∙ holds-some kid (getD (records s) i empty) (g .2)) refl)
+
+          module _ (w : p ≡ Nowhere) (v : Place) (d : FreeIn v (records s)) where
+            nowhere : isEmpty (get kid (records s)) ≡ true
+            nowhere = let g : get kid (records s) ≡ empty = rw w at f in ap isEmpty g
+
+            pub add-full : v ≡ Nowhere → Answers storeFull s (add cipher s role kid suite base)
+            unfolding first settled
+            add-full z = let g : full (records s) ≡ true = rw z at d in answers _ _ (outcome-of true true nowhere g)
+
+            pub add-done : (i : ℕ) → v ≡ At i → (x : List ℕ) → x ≡ encodeAll (set (records s) i (added cipher role kid suite base)) → Answers done x (add cipher s role kid suite base)
+            unfolding first settled
+            add-done i z x a =
+                let g : FreeIn (At i) (records s) = rw z at d in
+                let m = fill-at (added cipher role kid suite base) (records s) i g in
+                let y = answers _ _ (outcome-of true false nowhere (m .1)) in
+                (y .0, a ∙ ap encodeAll (sym (m .0)) ∙ y .1)

@@ -1,0 +1,43 @@
+-- Adding a key: number, length, store and room afterwards, for every input. The causes of refusal stand in the order in which
+-- they are tried.
+-- Assumes nothing.
+use mathlib.Core.Bool.{Bool, not}
+use mathlib.Core.List.{List, [], _∷_}
+use Prim.Native.Nat.{ℕ}
+use lib.Dec.{leb}
+use lib.ListN.{length}
+use Rattle.octets.specs.Octets.{both}
+use Rattle.answers.specs.Answers.{storeInvalid, suiteUnknown, baseKeySize, kidHeld, storeFull, Cause, _if_, first, Outcome, settled}
+use Rattle.answers.specs.Limits.{baseKeyLeast, baseKeyMost}
+use Rattle.store.specs.Calls.{stored}
+use Rattle.store.specs.Cipher.{Cipher}
+use Rattle.store.specs.Record.{KeyRecord, sending, receiving, isEmpty}
+use Rattle.store.specs.Store.{encodeAll, records, sound}
+use Rattle.store.specs.Suites.{isSuite}
+use Rattle.store.specs.Table.{get, fill, full}
+use Rattle.store.specs.declared.Role.{Role}
+use Rattle.store.specs.declared.Role.the-variants.{Sending, Receiving}
+
+-- role and suite are what the key is to be added for, held is the record that holds the KID, base the length of the base key
+unfoldable pub addCauses : (valid : Bool) (role : Role) (suite base : ℕ) (held : KeyRecord) (rs : List KeyRecord) → List Cause
+addCauses valid role suite base held rs =
+    (storeInvalid if not valid)
+    ∷ (suiteUnknown if not (isSuite suite))
+    ∷ (baseKeySize if not (both (leb baseKeyLeast base) (leb base baseKeyMost)))
+    ∷ (kidHeld if not (isEmpty held))
+    ∷ (storeFull if full rs)
+    ∷ []
+
+-- The record of a key just added: counter 0, and the key and salt that RFC 9605 derives.
+unfoldable pub added : (cipher : Cipher) (role : Role) (kid suite : ℕ) (base : List ℕ) → KeyRecord
+added cipher Sending kid suite base =
+    sending (record { suite = suite; kid = kid; counter = 0; salt = cipher .salt suite base kid; key = cipher .key suite base kid })
+added cipher Receiving kid suite base = receiving (record { suite = suite; kid = kid; salt = cipher .salt suite base kid; key = cipher .key suite base kid })
+
+unfoldable pub addAt : (cipher : Cipher) (valid : Bool) (rs : List KeyRecord) (s : List ℕ) (role : Role) (kid suite : ℕ) (base : List ℕ) → Outcome
+addAt cipher valid rs s role kid suite base =
+    settled (first (addCauses valid role suite (length base) (get kid rs) rs)) s [] (stored (encodeAll (fill (added cipher role kid suite base) rs)))
+
+-- The lowest-numbered empty record holds the key.
+unfoldable pub add : (cipher : Cipher) (s : List ℕ) (role : Role) (kid suite : ℕ) (base : List ℕ) → Outcome
+add cipher s role kid suite base = addAt cipher (sound s) (records s) s role kid suite base

@@ -1,0 +1,43 @@
+// Adding a key. The causes are tried in the order 1, 2, 3, 4, 5.
+ghost use mathlib.Core.Path.{_≡_};
+ghost use Rattle.add_key.specs.Add.{add};
+ghost use Rattle.store.specs.Sframe.{sframe};
+use answers::BASE_KEY_SIZE;
+use answers::DONE;
+use answers::KID_HELD;
+use answers::MAX_BASE_KEY;
+use answers::MIN_BASE_KEY;
+use answers::STORE_FULL;
+use answers::STORE_INVALID;
+use answers::SUITE_UNKNOWN;
+use header::Kid;
+use store::Place;
+use store::Role;
+use suites::sizes::Found;
+
+// Adds a key: the lowest-numbered empty record holds what the suite derives from the base key for a KID.
+pub fn add(store: &mut [u8], role: Role, kid: Kid, suite: u64, base: &[u8]) -> u32
+    ensures { λ r. ⌜ r ≡ add sframe (now (store .entry)) role (kid .0) suite (now (base .entry)) .number ⌝ }
+    ensures { λ _. ⌜ now (store .exit) ≡ add sframe (now (store .entry)) role (kid .0) suite (now (base .entry)) .store ⌝ }
+{
+    if !store::is_sound(store) {
+        return STORE_INVALID;
+    }
+    let Found::Known(known) = suites::sizes::find(suite) else {
+        return SUITE_UNKNOWN;
+    };
+    if base.len() < MIN_BASE_KEY {
+        return BASE_KEY_SIZE;
+    }
+    if MAX_BASE_KEY < base.len() {
+        return BASE_KEY_SIZE;
+    }
+    let Place::Nowhere = store::find(store, kid) else {
+        return KID_HELD;
+    };
+    let Place::At(i) = store::find_free(store) else {
+        return STORE_FULL;
+    };
+    store::fill_at(store, i, role, known, kid, base);
+    DONE
+}
