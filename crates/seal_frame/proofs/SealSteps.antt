@@ -1,0 +1,260 @@
+-- The steps of sealing a frame, over plain variables. Assumes nothing.
+use mathlib.Core.Path.{_≡_, refl, sym, _∙_, ap, ap₂}
+use mathlib.Core.Bool.{Bool, true, false, not}
+use mathlib.Core.List.{List, _++_, append-assoc}
+use Prim.Native.Nat.{ℕ, _+_, _-_, _<_, _≤_}
+use native.Mathlib.Nat.{sub-zero}
+use native.Mathlib.Omega.{arith}
+use lib.Dec.{eqb, ltb, leb}
+use lib.ListN.{length, getD, set, take, drop, length-append, length-take, length-drop}
+use lib.Seq.{take-at, drop-at, drop-drop}
+use borrow.Author.Tests.{le-leb, lt-ltb, le-ltb, eqb-false, ltb-false, not-true, not-false}
+use borrow.Rule.Slice.PartMut.{putMid}
+use Rattle.octets.specs.Octets.{Octets}
+use Rattle.header.specs.Header.{maxHeader, header, writeHeader}
+use Rattle.header.specs.Answers.{roomShort}
+use Rattle.header.specs.declared.Written.{Written}
+use Rattle.header.specs.declared.Written.the-variants.{Length, NoRoom}
+use Rattle.answers.specs.Answers.{done, storeInvalid, kidMissing, roleRefused, counterSpent, inputTooLong, first, Outcome, settled}
+use Rattle.answers.specs.Limits.{maxPlaintext, maxMetadata, tooLong}
+use Rattle.answers.proofs.Basics.{told-false, passes, settled-done, settled-refused}
+use Rattle.answers.proofs.Limits.{not-long}
+use Rattle.suites.specs.Suites.{Nt}
+use Rattle.suites.specs.inner.Sizes.{maxNt}
+use Rattle.suites.specs.Derivation.{nonce}
+use Rattle.suites.specs.Aead as Aead
+use Rattle.suites.specs.declared.sizes.Suite.{Suite}
+use Rattle.suites.proofs.Laws as Suites
+use Rattle.store.specs.Layout.{decode}
+use Rattle.store.specs.Record.{ceiling, KeyRecord, empty, isEmpty, isSending, suiteOf, saltOf, keyOf, counterOf, advanced}
+use Rattle.store.specs.Sframe.{encryptBy, sframe}
+use Rattle.store.specs.Store.{encodeAll, records, sound}
+use Rattle.store.specs.Suites.{tagSize}
+use Rattle.store.specs.Table.{get, put, apart, FoundIn}
+use Rattle.store.specs.inner.Rows.{RowOf, Numbered}
+use Rattle.store.specs.declared.Place.{Place}
+use Rattle.store.specs.declared.Place.the-variants.{At, Nowhere}
+use Rattle.store.proofs.Codec.{Fit}
+use Rattle.store.proofs.KindLaws.{sends-held, fit-counter}
+use Rattle.store.proofs.Stores.{sound-stored, get-fit}
+use Rattle.store.proofs.Suites.{tag-named}
+use Rattle.store.proofs.Tables.{put-at, holds-some}
+use Rattle.seal_frame.specs.Frame.{frame}
+use Rattle.seal_frame.specs.Seal.{nextLength, sealCauses, causesOfSeal, nextFrame, sealAt, seal}
+
+-- ---- the header of the next frame
+
+length-is : (a b : ℕ) → Length a ≡ Length b → a ≡ b
+length-is a b e = cc
+
+module _ (out : List ℕ) (kid v : ℕ) (w : Written) (h : maxHeader ≤ length out) (most : length (header kid v) ≤ maxHeader) (a : w ≡ writeHeader kid v out .answer) where
+  fits-in : leb (length (header kid v)) (length out) ≡ true
+  fits-in = le-leb (length (header kid v)) (length out) (omega (arith, most))
+
+  pub header-has-room : w ≡ NoRoom → ⊥
+  unfolding writeHeader
+  header-has-room u =
+      let m : Length (length (header kid v)) ≡ NoRoom = (rw fits-in at (sym a)) ∙ u in
+      let z : _≡_ {A = ℕ} 0 1 = cc in
+      omega arith
+
+  pub header-written : (ctr n : ℕ) (x : List ℕ) → v ≡ ctr → w ≡ Length n → x ≡ writeHeader kid v out .room
+      → ((n ≡ length (header kid ctr)) × (n ≤ maxHeader)) × (x ≡ header kid ctr ++ drop n out)
+  unfolding writeHeader
+  header-written ctr n x e u b =
+      let s : n ≡ length (header kid v) = length-is n (length (header kid v)) (sym u ∙ rw fits-in at a) in
+      let q : x ≡ header kid v ++ drop (length (header kid v)) out = rw fits-in at b in
+      ((s ∙ ap (λ (c : ℕ). length (header kid c)) e, omega (arith, most)), q ∙ ap₂ (λ (c i : ℕ). header kid c ++ drop i out) e (sym s))
+
+-- ---- the length of the next frame
+
+pub length-told : (held : KeyRecord) (kid plaintext n nt : ℕ) (s : Suite) → Numbered s (suiteOf held) → nt ≡ Nt s → n ≡ length (header kid (counterOf held))
+    → n + (plaintext + nt) ≡ nextLength held kid plaintext
+unfolding nextLength
+length-told held kid plaintext n nt s f size head = ap₂ (λ (a b : ℕ). a + (plaintext + b)) head (size ∙ sym (tag-named (suiteOf held) s f))
+
+pub length-fits : (plaintext n nt : ℕ) (s : Suite) → plaintext ≤ maxPlaintext → n ≤ maxHeader → nt ≡ Nt s → n + (plaintext + nt) ≤ maxHeader + (maxPlaintext + maxNt)
+length-fits plaintext n nt s p h e = let m = Suites.Nt-most s in omega arith
+
+-- ---- the causes
+
+module _ (held : KeyRecord) (kid metadata plaintext room : ℕ) where
+  pub judged-role : isEmpty held ≡ false → isSending held ≡ false → roleRefused ≡ first (causesOfSeal true held kid metadata plaintext room)
+  unfolding causesOfSeal sealCauses first
+  judged-role e d = rw (e, d)
+
+  module _ (s : isSending held ≡ true) (b : Bool) (e : b ≡ not (eqb (counterOf held) ceiling)) where
+    pub judged-counter : not b ≡ true → counterSpent ≡ first (causesOfSeal true held kid metadata plaintext room)
+    unfolding causesOfSeal sealCauses first
+    judged-counter h = rw (sends-held held s, s, not-false (eqb (counterOf held) ceiling) (sym e ∙ not-true b h))
+
+    module _ (left : not b ≡ false) where
+      unspent : eqb (counterOf held) ceiling ≡ false
+      unspent = not-true (eqb (counterOf held) ceiling) (sym e ∙ not-false b left)
+
+      module _ (t : Bool) (long : t ≡ tooLong plaintext metadata) where
+        pub judged-long : t ≡ true → inputTooLong ≡ first (causesOfSeal true held kid metadata plaintext room)
+        unfolding causesOfSeal sealCauses first
+        judged-long h = rw (sends-held held s, s, unspent, sym long ∙ h)
+
+        module _ (short : t ≡ false) (n : ℕ) (size : n ≡ nextLength held kid plaintext) where
+          pub judged-room : room < n → roomShort ≡ first (causesOfSeal true held kid metadata plaintext room)
+          unfolding causesOfSeal sealCauses first
+          judged-room h = rw (sends-held held s, s, unspent, sym long ∙ short, ← size, lt-ltb room n h)
+
+          pub judged-done : n ≤ room → done ≡ first (causesOfSeal true held kid metadata plaintext room)
+          unfolding causesOfSeal sealCauses first
+          judged-done h = rw (sends-held held s, s, unspent, sym long ∙ short, ← size, le-ltb room n h)
+
+-- what holds of a record where no cause applies
+pub record Clear (held : KeyRecord) (kid metadata plaintext room : ℕ) : Type 0 where
+  pub sends : isSending held ≡ true
+  pub counter-left : counterOf held ≡ ceiling → ⊥
+  pub plaintext-most : plaintext ≤ maxPlaintext
+  pub metadata-most : metadata ≤ maxMetadata
+  pub room-enough : nextLength held kid plaintext ≤ room
+
+pub clear : (held : KeyRecord) (kid metadata plaintext room : ℕ) → first (causesOfSeal true held kid metadata plaintext room) ≡ done → Clear held kid metadata plaintext room
+unfolding causesOfSeal sealCauses
+clear held kid metadata plaintext room z =
+    let p = passes (sealCauses true held metadata plaintext (nextLength held kid plaintext) room) refl z in
+    let sizes = not-long plaintext metadata (p .1 .1 .1 .1 .0) in
+    record {
+      sends = not-false (isSending held) (p .1 .1 .0);
+      counter-left = eqb-false (counterOf held) ceiling (p .1 .1 .1 .0);
+      plaintext-most = sizes .0;
+      metadata-most = sizes .1;
+      room-enough = ltb-false room (nextLength held kid plaintext) (p .1 .1 .1 .1 .1 .0);
+    }
+
+-- ---- the frame
+
+-- ciphertext and tag, as the code comes to them
+pub body-is : (s : Suite) (held : KeyRecord) (out key salt iv h metadata p : List ℕ) (v : ℕ) → key ≡ keyOf held → salt ≡ saltOf held → v ≡ counterOf held → iv ≡ nonce salt v
+    → out ≡ Aead.encrypt s key iv (h ++ metadata) p → out ≡ Aead.encrypt s (keyOf held) (nonce (saltOf held) (counterOf held)) (h ++ metadata) p
+body-is s held out key salt iv h metadata p v a b e i q = q ∙ ap₂ (λ (k x : List ℕ). Aead.encrypt s k x (h ++ metadata) p) a (i ∙ ap₂ nonce b e)
+
+body : Suite → KeyRecord → List ℕ → List ℕ → List ℕ → List ℕ
+body s held h metadata p = Aead.encrypt s (keyOf held) (nonce (saltOf held) (counterOf held)) (h ++ metadata) p
+
+module _ (held : KeyRecord) (kid : ℕ) (metadata plaintext room : List ℕ) (c : Clear held kid (length metadata) (length plaintext) (length room)) (s : Suite) (found : Numbered s (suiteOf held)) where
+  abbrev hd : List ℕ
+  hd = header kid (counterOf held)
+
+  next-is : nextFrame sframe held kid metadata plaintext ≡ hd ++ body s held hd metadata plaintext
+  unfolding nextFrame frame encryptBy body
+  next-is = rw found
+
+  body-size : length (body s held hd metadata plaintext) ≡ length plaintext + Nt s
+  unfolding body
+  body-size = Suites.encrypt-size s _ _ _ plaintext
+
+  module _ (n nt : ℕ) (head z : List ℕ) (size : nt ≡ Nt s) (long : n ≡ length hd) (wrote : head ≡ hd ++ z) where
+    pub front-is : take (n - 0) head ≡ hd
+    front-is = ap₂ take (sub-zero n) wrote ∙ take-at hd z n (sym long)
+
+    pub frame-inside : n + (length plaintext + nt) ≤ length room
+    frame-inside = omega (arith, c .room-enough, length-told held kid (length plaintext) n nt s found size long)
+
+    pub front-fits : length (take (n - 0) head) ≤ length room
+    front-fits = let h = frame-inside in simp length-take (omega arith)
+
+    pub front-most : n ≤ maxHeader → length (take (n - 0) head) ≤ maxHeader
+    front-most h = simp length-take (omega arith)
+
+    pub body-room : (end : ℕ) (q : List ℕ) → end ≡ n + (length plaintext + nt) → length q ≡ length room → length (take (end - n) (drop n q)) ≡ length plaintext + Nt s
+    body-room end q e k = let h = frame-inside in simp (length-take, length-drop) (omega arith)
+
+    pub frame-length : n + (length plaintext + nt) ≡ length (nextFrame sframe held kid metadata plaintext)
+    frame-length = rw (next-is, length-append, body-size, long, size)
+
+    pub frame-written : (end : ℕ) (q out x : List ℕ) → end ≡ n + (length plaintext + nt) → q ≡ take (n - 0) head ++ drop (length (take (n - 0) head)) room
+        → out ≡ Aead.encrypt s (keyOf held) (nonce (saltOf held) (counterOf held)) (take (n - 0) head ++ metadata) plaintext
+        → x ≡ putMid n (end - n) q out → x ≡ nextFrame sframe held kid metadata plaintext ++ drop end room
+    unfolding body
+    frame-written end q out x e p w y =
+        let p′ : q ≡ hd ++ drop n room = p ∙ ap (λ (f : List ℕ). f ++ drop (length f) room) front-is ∙ ap (λ (i : ℕ). hd ++ drop i room) (sym long) in
+        let w′ : out ≡ body s held hd metadata plaintext = w ∙ ap (λ (f : List ℕ). body s held f metadata plaintext) front-is in
+        let a : take n q ≡ hd = ap (take n) p′ ∙ take-at hd (drop n room) n (sym long) in
+        let b : drop n q ≡ drop n room = ap (drop n) p′ ∙ drop-at hd (drop n room) n (sym long) in
+        let i : n + (end - n) ≡ end = omega arith in
+        let r : drop (end - n) (drop n q) ≡ drop end room = ap (drop (end - n)) b ∙ drop-drop (end - n) n room ∙ ap (λ (k : ℕ). drop k room) i in
+        y
+        ∙ ap₂ (λ (f t : List ℕ). f ++ (out ++ t)) a r
+        ∙ ap (λ (t : List ℕ). hd ++ (t ++ drop end room)) w′
+        ∙ sym (append-assoc hd (body s held hd metadata plaintext) (drop end room))
+        ∙ ap (λ (t : List ℕ). t ++ drop end room) (sym next-is)
+
+-- ---- Seal
+
+-- what a call answers, and what it leaves in store and room
+abbrev pub Leaves : Outcome → ℕ → ℕ → List ℕ → List ℕ → Type 0
+Leaves o number written store room = ((number ≡ o .number) × (written ≡ o .written)) × ((store ≡ o .store) × (room ≡ o .room))
+
+leaves : (o p : Outcome) → o ≡ p → Leaves o (p .number) (p .written) (p .store) (p .room)
+leaves o p e = ((sym (ap (λ (x : Outcome). x .number) e), sym (ap (λ (x : Outcome). x .written) e)), (sym (ap (λ (x : Outcome). x .store) e), sym (ap (λ (x : Outcome). x .room) e)))
+
+-- the success of Seal on a table
+success : KeyRecord → List KeyRecord → ℕ → List ℕ → List ℕ → List ℕ → Outcome
+success held rs kid metadata plaintext room =
+    let f = nextFrame sframe held kid metadata plaintext in
+    record { number = 0; written = length f; store = encodeAll (put kid (advanced held) rs); room = f ++ drop (length f) room }
+
+module _ (s : List ℕ) (kid : ℕ) (metadata plaintext room : List ℕ) where
+  pub seal-unsound : (r : Bool) → r ≡ sound s → not r ≡ true → Leaves (seal sframe s kid metadata plaintext room) storeInvalid 0 s room
+  unfolding seal sealAt causesOfSeal sealCauses first settled
+  seal-unsound r e t = let f = told-false r _ e t in rw f ((refl, refl), (refl, refl))
+
+  module _ (is-sound : sound s ≡ true) where
+    -- what Seal comes to once the record is found
+    outcome-of : (held : KeyRecord) → get kid (records s) ≡ held
+        → seal sframe s kid metadata plaintext room
+        ≡ settled (first (causesOfSeal true held kid (length metadata) (length plaintext) (length room))) s room (success held (records s) kid metadata plaintext room)
+    unfolding seal sealAt success
+    outcome-of held g = ap₂ (λ (v : Bool) (h : KeyRecord). sealAt sframe v h (records s) s kid metadata plaintext room) is-sound g
+
+    pub seal-missing : (p : Place) → FoundIn p kid (records s) → p ≡ Nowhere → Leaves (seal sframe s kid metadata plaintext room) kidMissing 0 s room
+    unfolding causesOfSeal sealCauses first settled
+    seal-missing p f w = let g : get kid (records s) ≡ empty = rw w at f in leaves _ _ (outcome-of empty g)
+
+    module _ (p : Place) (f : FoundIn p kid (records s)) (i : ℕ) (w : p ≡ At i) where
+      found : FoundIn (At i) kid (records s)
+      found = rw w at f
+
+      pub held-there : (l : List ℕ) → RowOf s i l → isEmpty (decode l) ≡ false
+      held-there l r = ap isEmpty (r .1) ∙ holds-some kid (getD (records s) i empty) (found .2)
+
+      module _ (l : List ℕ) (r : RowOf s i l) (v : ℕ) (judged : v ≡ first (causesOfSeal true (decode l) kid (length metadata) (length plaintext) (length room))) where
+        pub seal-refused : (v ≡ done → ⊥) → Leaves (seal sframe s kid metadata plaintext room) v 0 s room
+        seal-refused d =
+            let o = outcome-of (decode l) (found .1 ∙ sym (r .1)) in
+            let q = settled-refused (first (causesOfSeal true (decode l) kid (length metadata) (length plaintext) (length room))) s room (success (decode l) (records s) kid metadata plaintext room) (λ z. d (judged ∙ z)) in
+            let k = leaves _ _ o in
+            ((judged ∙ sym (q .number-is) ∙ k .0 .0, sym (q .nothing-written) ∙ k .0 .1), (sym (q .store-stays) ∙ k .1 .0, sym (q .room-stays) ∙ k .1 .1))
+
+        module _ (z : v ≡ done) where
+          -- what was judged of the record holds of its bytes whenever they are lent
+          pub judged-again : (m : List ℕ) → RowOf s i m → first (causesOfSeal true (decode m) kid (length metadata) (length plaintext) (length room)) ≡ done
+          judged-again m q = ap (λ (h : KeyRecord). first (causesOfSeal true h kid (length metadata) (length plaintext) (length room))) (q .1 ∙ sym (r .1)) ∙ sym judged ∙ z
+
+          pub clear-there : Clear (getD (records s) i empty) kid (length metadata) (length plaintext) (length room)
+          clear-there = rw (r .1) at (clear (decode l) kid (length metadata) (length plaintext) (length room) (sym judged ∙ z))
+
+          pub counter-below : Octets s → counterOf (getD (records s) i empty) < ceiling
+          counter-below o =
+              let h : Fit (getD (records s) i empty) = rw (found .1) at (get-fit kid (records s) (sound-stored s o is-sound .table .fit)) in
+              omega (arith, fit-counter (getD (records s) i empty) h, clear-there .counter-left)
+
+          pub seal-done : Octets s → (m : List ℕ) → RowOf s i m → (n : ℕ) (x y : List ℕ) → n ≡ length (nextFrame sframe (decode m) kid metadata plaintext)
+              → y ≡ nextFrame sframe (decode m) kid metadata plaintext ++ drop n room → x ≡ encodeAll (set (records s) i (advanced (getD (records s) i empty)))
+              → Leaves (seal sframe s kid metadata plaintext room) done n x y
+          unfolding success
+          seal-done oc m q n x y b d g =
+              let a : apart (records s) ≡ true = sound-stored s oc is-sound .table .kids-apart in
+              let o = outcome-of (decode m) (found .1 ∙ sym (q .1)) ∙ settled-done _ s room (success (decode m) (records s) kid metadata plaintext room) (judged-again m q) in
+              let u = leaves _ _ o in
+              let d′ = d ∙ ap (λ (j : ℕ). nextFrame sframe (decode m) kid metadata plaintext ++ drop j room) b in
+              let g′ : x ≡ encodeAll (put kid (advanced (decode m)) (records s)) =
+              g ∙ ap encodeAll (sym (put-at kid (advanced (getD (records s) i empty)) (records s) i a (found .2))) ∙ ap (λ (h : KeyRecord). encodeAll (put kid (advanced h) (records s))) (sym (q .1))
+              in
+              ((u .0 .0, b ∙ u .0 .1), (g′ ∙ u .1 .0, d′ ∙ u .1 .1))

@@ -1,0 +1,156 @@
+// Sealing a frame. The causes are tried in the order 1, 6, 7, 8, 9, 12.
+use answers::Answer;
+use answers::COUNTER_SPENT;
+use answers::DONE;
+use answers::INPUT_TOO_LONG;
+use answers::KID_MISSING;
+use answers::ROLE_REFUSED;
+use answers::ROOM_SHORT;
+use answers::STORE_INVALID;
+use answers::refused;
+use answers::too_long;
+use header::Kid;
+use header::MAX_HEADER;
+use header::Written;
+use store::Place;
+use suites::sizes::Suite;
+ghost use mathlib.Core.Path.{_≡_};
+ghost use mathlib.Core.Bool.{true, false};
+ghost use mathlib.Core.List.{_++_};
+ghost use Prim.Native.Nat.{_+_, _≤_};
+ghost use lib.ListN.{length, drop};
+ghost use Rattle.header.specs.Header.{maxHeader, header};
+ghost use Rattle.answers.specs.Answers.{done, first};
+ghost use Rattle.answers.specs.Limits.{maxPlaintext, maxMetadata};
+ghost use Rattle.suites.specs.Suites.{Nt};
+ghost use Rattle.suites.specs.Derivation.{nonce};
+ghost use Rattle.suites.specs.Aead.{encrypt};
+ghost use Rattle.store.specs.Layout.{decode};
+ghost use Rattle.store.specs.Record.{isEmpty, isSending, suiteOf, saltOf, keyOf, counterOf};
+ghost use Rattle.store.specs.Sframe.{sframe};
+ghost use Rattle.store.specs.inner.Rows.{Row, Numbered};
+ghost use Rattle.seal_frame.specs.Seal.{nextLength, causesOfSeal, nextFrame, seal};
+
+// Writes the header of a sending record's next frame to the front of head.
+fn write_next(row: &[u8], kid: Kid, head: &mut [u8]) -> usize
+    requires { ⌜ (Row (now row)) × (isSending (decode (now row)) ≡ true) × (maxHeader ≤ length (now head)) ⌝ }
+    ensures { λ r. ⌜ (r ≡ length (header (kid .0) (counterOf (decode (now (row .entry)))))) × (r ≤ maxHeader) ⌝ }
+    ensures { λ r. ⌜ now (head .exit) ≡ header (kid .0) (counterOf (decode (now (row .entry)))) ++ drop r (now (head .entry)) ⌝ }
+{
+    let ctr = store::row::next_of(row);
+    let Written::Length(n) = header::write_header(kid, ctr, head) else {
+        return 0;
+    };
+    n
+}
+
+// The length of a sending record's next frame.
+fn next_length(row: &[u8], kid: Kid, plaintext: usize) -> usize
+    requires { ⌜ (Row (now row)) × (isSending (decode (now row)) ≡ true) × (plaintext ≤ maxPlaintext) ⌝ }
+    ensures { λ r. ⌜ r ≡ nextLength (decode (now (row .entry))) (kid .0) plaintext ⌝ }
+{
+    let mut head = [0u8; MAX_HEADER];
+    let n = write_next(row, kid, &mut head);
+    let nt = store::row::suite_of(row).tag_size();
+    n + (plaintext + nt)
+}
+
+// The number of the first cause for which a held record refuses to seal; 0 where there is none.
+fn judge(row: &[u8], kid: Kid, metadata: usize, plaintext: usize, room: usize) -> u32
+    requires { ⌜ (Row (now row)) × (isEmpty (decode (now row)) ≡ false) ⌝ }
+    ensures { λ r. ⌜ r ≡ first (causesOfSeal true (decode (now (row .entry))) (kid .0) metadata plaintext room) ⌝ }
+{
+    if !store::row::is_sending(row) {
+        return ROLE_REFUSED;
+    }
+    if !store::row::counter_left(row) {
+        return COUNTER_SPENT;
+    }
+    if too_long(plaintext, metadata) {
+        return INPUT_TOO_LONG;
+    }
+    if room < next_length(row, kid, plaintext) {
+        return ROOM_SHORT;
+    }
+    DONE
+}
+
+// Fills out with ciphertext and tag under the key and the next counter of a sending record.
+fn encrypt_next(
+    row: &[u8],
+    suite: Suite,
+    head: &[u8],
+    metadata: &[u8],
+    plaintext: &[u8],
+    out: &mut [u8],
+)
+    requires { ⌜ (Row (now row)) × (isSending (decode (now row)) ≡ true) × (Numbered suite (suiteOf (decode (now row)))) ⌝ }
+    requires { ⌜ (length (now head) ≤ maxHeader) × (length (now metadata) ≤ maxMetadata) × (length (now plaintext) ≤ maxPlaintext) ⌝ }
+    requires { ⌜ length (now out) ≡ length (now plaintext) + Nt suite ⌝ }
+    ensures { λ _. ⌜ now (out .exit) ≡ encrypt suite (keyOf (decode (now (row .entry)))) (nonce (saltOf (decode (now (row .entry)))) (counterOf (decode (now (row .entry))))) (now (head .entry) ++ now (metadata .entry)) (now (plaintext .entry)) ⌝ }
+{
+    let ctr = store::row::next_of(row);
+    let nonce = suites::derivation::nonce_of(store::row::salt_of(row), ctr);
+    let key = store::row::key_of(row, suite);
+    suites::aead::encrypt(suite, key, &nonce, head, metadata, plaintext, out);
+}
+
+// Writes a record's next frame to the front of the room, where nothing is against it.
+fn write_frame(row: &[u8], kid: Kid, metadata: &[u8], plaintext: &[u8], room: &mut [u8]) -> usize
+    requires { ⌜ Row (now row) ⌝ }
+    requires { ⌜ first (causesOfSeal true (decode (now row)) (kid .0) (length (now metadata)) (length (now plaintext)) (length (now room))) ≡ done ⌝ }
+    ensures { λ r. ⌜ r ≡ length (nextFrame sframe (decode (now (row .entry))) (kid .0) (now (metadata .entry)) (now (plaintext .entry))) ⌝ }
+    ensures { λ r. ⌜ now (room .exit) ≡ nextFrame sframe (decode (now (row .entry))) (kid .0) (now (metadata .entry)) (now (plaintext .entry)) ++ drop r (now (room .entry)) ⌝ }
+{
+    let suite = store::row::suite_of(row);
+    let mut head = [0u8; MAX_HEADER];
+    let n = write_next(row, kid, &mut head);
+    let end = n + (plaintext.len() + suite.tag_size());
+    octets::copy(room, &head[0..n]);
+    encrypt_next(
+        row,
+        suite,
+        &head[0..n],
+        metadata,
+        plaintext,
+        &mut room[n..end],
+    );
+    end
+}
+
+// Seals a plaintext with the key of a KID: the frame stands at the front of the room. The counter is counted up once
+// everything has been checked.
+pub fn seal(
+    store: &mut [u8],
+    kid: Kid,
+    metadata: &[u8],
+    plaintext: &[u8],
+    room: &mut [u8],
+) -> Answer
+    ensures { λ r. ⌜ (r .number ≡ seal sframe (now (store .entry)) (kid .0) (now (metadata .entry)) (now (plaintext .entry)) (now (room .entry)) .number) × (r .length ≡ seal sframe (now (store .entry)) (kid .0) (now (metadata .entry)) (now (plaintext .entry)) (now (room .entry)) .written) ⌝ }
+    ensures { λ _. ⌜ now (store .exit) ≡ seal sframe (now (store .entry)) (kid .0) (now (metadata .entry)) (now (plaintext .entry)) (now (room .entry)) .store ⌝ }
+    ensures { λ _. ⌜ now (room .exit) ≡ seal sframe (now (store .entry)) (kid .0) (now (metadata .entry)) (now (plaintext .entry)) (now (room .entry)) .room ⌝ }
+{
+    if !store::is_sound(store) {
+        return refused(STORE_INVALID);
+    }
+    let Place::At(i) = store::find(store, kid) else {
+        return refused(KID_MISSING);
+    };
+    let number = judge(
+        store::row_at(store, i),
+        kid,
+        metadata.len(),
+        plaintext.len(),
+        room.len(),
+    );
+    if number != DONE {
+        return refused(number);
+    }
+    let length = write_frame(store::row_at(store, i), kid, metadata, plaintext, room);
+    store::advance_at(store, i);
+    Answer {
+        number: DONE,
+        length,
+    }
+}
