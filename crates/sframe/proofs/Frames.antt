@@ -12,10 +12,10 @@ use Rattle.header.specs.Header.{header, config, width}
 use Rattle.header.specs.declared.Reading.the-variants.{Header}
 use Rattle.header.proofs.Laws.{field-bits, header-begins}
 use Rattle.store.specs.Cipher.{Cipher}
-use Rattle.store.proofs.Basics.{Two, yes′, no′, two}
+use Rattle.answers.proofs.Basics.{Two, yes′, no′, two}
 use Rattle.store.proofs.CipherLaws.{Laws, Usable}
-use Rattle.sframe.specs.Calls.{opening}
-use Rattle.sframe.specs.Frame.{frame}
+use Rattle.open_frame.specs.Open.{opening}
+use Rattle.seal_frame.specs.Frame.{frame}
 use Rattle.sframe.specs.Promises.{kidOf, ctrOf, Begins, isSender, senders, OpenedTo, keyFrom, saltFrom, nonceOf, Holds, Frame, Pair, Kept}
 use Rattle.sframe.specs.History.{Adding, Sealing, Event, added, sealed, other}
 use Rattle.sframe.proofs.Ledger.{Each, Fact, fact-reads, fact-kid, fact-ctr, Below, Proper}

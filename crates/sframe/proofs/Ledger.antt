@@ -12,23 +12,28 @@ use Rattle.header.specs.Answers.{readKid, readCtr}
 use Rattle.header.specs.Header.{header, readHeader}
 use Rattle.header.specs.declared.Reading.the-variants.{Header}
 use Rattle.header.proofs.Laws.{read-header}
-use Rattle.store.specs.Answers.{Outcome}
-use Rattle.store.specs.Calls.{make, add, remove, added as addedRecord}
+use Rattle.answers.specs.Answers.{Outcome}
+use Rattle.store.specs.Calls.{make, remove}
+use Rattle.add_key.specs.Add.{add, added as addedRecord}
 use Rattle.store.specs.Cipher.{Cipher}
-use Rattle.store.specs.Record.{recordSize, ceiling, SendingKey, ReceivingKey, KeyRecord, empty, sending, receiving, retired}
+use Rattle.store.specs.Record.{ceiling, SendingKey, ReceivingKey, KeyRecord, empty, sending, receiving, retired, counterOf}
 use Rattle.store.specs.Table.{get, put, clear, fill}
-use Rattle.store.specs.declared.Role.{Role}
-use Rattle.store.specs.declared.Role.the-variants.{Sending, Receiving}
-use Rattle.store.proofs.Basics.{Two, yes′, no′, two, settled-store}
+use Rattle.answers.proofs.Basics.{Two, yes′, no′, two, settled-store}
 use Rattle.store.proofs.CipherLaws.{Laws}
-use Rattle.store.proofs.Keys.{make-stored, empties-get, kept, AddStep, add-step, RemoveStep, remove-step}
+use Rattle.store.proofs.Keys.{make-stored, empties-get, RemoveStep, remove-step}
+use Rattle.store.specs.inner.Rows.{kept}
+use Rattle.add_key.proofs.Adds.{AddStep, add-step}
 use Rattle.store.proofs.Stores.{Stored, Change}
-use Rattle.sframe.specs.Calls.{maxPlaintext, maxMetadata, counterOf, seal, openAt, opening}
-use Rattle.sframe.specs.Frame.{frame}
+use Rattle.answers.specs.Limits.{maxPlaintext, maxMetadata}
+use Rattle.seal_frame.specs.Seal.{seal}
+use Rattle.open_frame.specs.Open.{openAt, opening}
+use Rattle.seal_frame.specs.Frame.{frame}
 use Rattle.sframe.specs.Promises.{kidOf, ctrOf, senders, keyFrom, saltFrom}
 use Rattle.sframe.specs.History.{Call, Add, Remove, Seal, Open, Typed, AllTyped, Adding, Sealing, Event, added, sealed, other, event, History, outcome, step, run, start}
 use Rattle.store.specs.Suites.{isSuite}
-use Rattle.sframe.proofs.Seals.{next, Sealed, SealStep, seal-step}
+use Rattle.seal_frame.proofs.Seals.{next, Sealed, SealStep, seal-step}
+use Rattle.store.specs.declared.Role.{Role}
+use Rattle.store.specs.declared.Role.the-variants.{Sending, Receiving}
 
 -- ---- the words of it
 
@@ -201,13 +206,13 @@ module _ (cipher : Cipher) (rs : List KeyRecord) (log : List Event) (a : Account
         covered = covered-change cipher kid empty rs rs′ c (rw g (omega arith)) log (a .covered);
       })
 
-  closed-account : (r : SendingKey) (rs′ : List KeyRecord) → get kid rs ≡ sending r → Change kid (kept r) rs rs′ → Account cipher rs′ (other ∷ log)
+  closed-account : (r : SendingKey) (rs′ : List KeyRecord) → get kid rs ≡ sending r → Change kid (kept (sending r)) rs rs′ → Account cipher rs′ (other ∷ log)
   closed-account r rs′ g c =
       let e : Source cipher r (senders kid log) = rw g at (a .ledger kid) in
       pass-by cipher rs′ log (record {
-        ledger = ledger-change cipher kid (kept r) rs rs′ c log log (a .ledger) (λ k d. refl) (e .add, e .only);
+        ledger = ledger-change cipher kid (kept (sending r)) rs rs′ c log log (a .ledger) (λ k d. refl) (e .add, e .only);
         frames = a .frames;
-        covered = covered-change cipher kid (kept r) rs rs′ c (rw g (omega arith)) log (a .covered);
+        covered = covered-change cipher kid (kept (sending r)) rs rs′ c (rw g (omega arith)) log (a .covered);
       })
 
   -- ---- Seal
@@ -291,7 +296,7 @@ module _ (cipher : Cipher) (h : History) (i : Inv cipher h) where
   stays s e′ q p = goes-on s (i .table) e′ other (rw q (i .is-stored)) p (pass-by cipher (i .table) (h .log) (i .account))
 
 module _ (cipher : Cipher) (laws : Laws cipher) where
-  step-keeps : (c : Call) (h : History) → Typed c → Inv cipher h → Inv cipher (step cipher c h)
+  pub step-keeps : (c : Call) (h : History) → Typed c → Inv cipher h → Inv cipher (step cipher c h)
   unfolding step outcome event
   step-keeps (Add role kid suite base) h q i = by (add-step cipher laws (h .store) (i .table) (i .is-stored) role kid suite base (q .0) (q .1))
     where
@@ -307,7 +312,7 @@ module _ (cipher : Cipher) (laws : Laws cipher) where
       by (RemoveStep.freed r z g c st) =
           goes-on cipher h i _ (clear kid (i .table)) other other st refl (freed-account cipher (i .table) (h .log) (i .account) kid r (clear kid (i .table)) g c)
       by (RemoveStep.closed r z g c st) =
-          goes-on cipher h i _ (put kid (kept r) (i .table)) other other st refl (closed-account cipher (i .table) (h .log) (i .account) kid r (put kid (kept r) (i .table)) g c)
+          goes-on cipher h i _ (put kid (kept (sending r)) (i .table)) other other st refl (closed-account cipher (i .table) (h .log) (i .account) kid r (put kid (kept (sending r)) (i .table)) g c)
   step-keeps (Seal kid metadata plaintext room) h q i = by (seal-step cipher laws (h .store) (i .table) (i .is-stored) kid metadata plaintext room)
     where
       by : SealStep cipher (h .store) (i .table) kid metadata plaintext (seal cipher (h .store) kid metadata plaintext room) → Inv cipher (step cipher (Seal kid metadata plaintext room) h)
@@ -325,9 +330,9 @@ module _ (cipher : Cipher) (laws : Laws cipher) where
   pub start-keeps : (s : List ℕ) → make s .number ≡ 0 → Inv cipher (start s)
   unfolding start senders
   start-keeps s e =
-      let n = length s / recordSize in
+      let m = make-stored s e in
       record {
-        table = replicate n empty;
-        is-stored = make-stored s e;
-        account = record { ledger = λ k. rw (empties-get k n); frames = tt; covered = tt };
+        table = replicate (m .count) empty;
+        is-stored = m .is-stored;
+        account = record { ledger = λ k. rw (empties-get k (m .count)); frames = tt; covered = tt };
       }

@@ -1,11 +1,8 @@
-mod AddSteps
 mod Frames
 mod Ledger
 pub mod Neighbours
-mod OpenSteps
+mod Never
 pub mod Opens
-mod SealSteps
-pub mod Seals
 pub mod Soundness
 pub mod Suites
 pub mod Theorem

@@ -10,20 +10,21 @@ use borrow.Author.Tests.{leb-true, leb-false}
 use Rattle.octets.specs.Octets.{Octets}
 use Rattle.header.specs.Answers.{readKid}
 use Rattle.header.specs.Header.{readHeader}
-use Rattle.store.specs.Answers.{Outcome, settled}
+use Rattle.answers.specs.Answers.{Outcome, settled}
 use Rattle.store.specs.Cipher.{Cipher}
-use Rattle.store.specs.Record.{KeyRecord, empty}
+use Rattle.store.specs.Record.{KeyRecord, empty, advanced}
 use Rattle.store.specs.Store.{records, sound}
 use Rattle.store.specs.Table.{holds, get, put}
-use Rattle.store.proofs.Basics.{Two, yes′, no′, two}
+use Rattle.answers.proofs.Basics.{Two, yes′, no′, two}
 use Rattle.store.proofs.CipherLaws.{Laws}
-use Rattle.store.proofs.Stores.{Stored, sound-stored, stored-records, stored-length}
+use Rattle.store.proofs.Stores.{Stored, sound-stored, stored-records, stored-lengths}
 use Rattle.store.proofs.Tables.{get-at, put-at}
-use Rattle.sframe.specs.Calls.{advanced, sealAt, seal, openAt, opening}
+use Rattle.seal_frame.specs.Seal.{sealAt, seal}
+use Rattle.open_frame.specs.Open.{openAt, opening}
 use Rattle.sframe.specs.Promises.{Alike, OthersStay, SameAnswer}
 use Rattle.sframe.proofs.Ledger.{open-store}
 use Rattle.sframe.proofs.Opens.{open-on}
-use Rattle.sframe.proofs.Seals.{next, SealStep, seal-step, seal-on}
+use Rattle.seal_frame.proofs.Seals.{next, SealStep, seal-step, seal-on}
 
 -- a place whose record holds a KID is a place of the table
 inside : (kid : ℕ) (rs : List KeyRecord) (i : ℕ) → holds kid (getD rs i empty) ≡ true → i < length rs
@@ -84,10 +85,7 @@ module _ (cipher : Cipher) (laws : Laws cipher) (s : List ℕ) (kid place : ℕ)
             let q = put-at kid (next r) (records s) place (st .table .kids-apart) h in
             record {
               length-stays =
-                  stored-length (o .store) (put kid (next r) (records s)) (p .store-is)
-                  ∙ ap (λ (x : List KeyRecord). length x * 80) q
-                  ∙ ap (λ (k : ℕ). k * 80) (length-set (records s) place (next r))
-                  ∙ sym (stored-length s (records s) st);
+                  stored-lengths (o .store) s (put kid (next r) (records s)) (records s) (p .store-is) st (ap length q ∙ length-set (records s) place (next r));
               others-stay = λ j d.
                   ap (λ (x : List KeyRecord). getD x j empty) (stored-records (o .store) (put kid (next r) (records s)) (p .store-is) ∙ q)
                   ∙ getD-set-other (records s) place j (next r) empty d;

@@ -1,32 +1,33 @@
 -- Opening succeeds exactly when the frame is the RFC's encryption of some plaintext, and yields that plaintext. Assumes nothing.
 use mathlib.Core.Path.{_≡_, refl, sym, _∙_, ap, ap₂}
 use mathlib.Core.Bool.{Bool, true, false, not, false≢true}
-use mathlib.Core.List.{List, _++_}
+use mathlib.Core.List.{List, [], _∷_, _++_}
 use Prim.Native.Nat.{ℕ, _+_, _-_, _≤_}
 use native.Mathlib.Omega.{arith}
-use lib.Dec.{leb}
+use lib.Dec.{leb, ltb, eqb}
 use lib.ListN.{length, take, drop, length-drop, take-append-drop}
 use lib.Seq.{take-append-seam, drop-at}
 use borrow.Author.Tests.{le-leb, le-ltb, ltb-false, eq-eqb}
 use Rattle.octets.specs.Octets.{Octets}
 use Rattle.octets.proofs.Laws.{octets-append, octets-take, octets-drop}
-use Rattle.header.specs.Answers.{readKid}
+use Rattle.header.specs.Answers.{headerInvalid, roomShort, readNumber, readKid, readLength}
 use Rattle.header.specs.Header.{header, readHeader}
 use Rattle.header.specs.declared.Reading.{Reading}
 use Rattle.header.specs.declared.Reading.the-variants.{Header}
 use Rattle.header.proofs.Laws.{HeaderRead, header-read}
-use Rattle.store.specs.Answers.{Outcome, first}
+use Rattle.answers.specs.Answers.{storeInvalid, kidMissing, roleRefused, inputTooLong, frameShort, tagDiffers, _if_, Outcome, first}
 use Rattle.store.specs.Cipher.{Cipher, Decrypted, plain, differs}
-use Rattle.store.specs.Record.{ReceivingKey, KeyRecord, receiving}
+use Rattle.store.specs.Record.{ReceivingKey, KeyRecord, receiving, isEmpty, isReceiving, suiteOf}
 use Rattle.store.specs.Store.{records}
 use Rattle.store.specs.Table.{holds, get}
-use Rattle.store.proofs.Basics.{both-and, Pass, passes, none-applies, settled-done, settled-number}
+use Rattle.answers.proofs.Basics.{both-and, Pass, passes, none-applies, settled-done, settled-number}
 use Rattle.store.proofs.CipherLaws.{Laws, Usable}
 use Rattle.store.proofs.Codec.{Fit}
 use Rattle.store.proofs.Stores.{Stored, sound-stored, stored-sound, stored-records, get-fit}
 use Rattle.store.proofs.Tables.{get-at}
-use Rattle.sframe.specs.Calls.{maxPlaintext, maxMetadata, tooLong, plainOf, isDiffers, decrypted, plainLength, openCauses, openAt, opening}
-use Rattle.sframe.specs.Frame.{frame}
+use Rattle.answers.specs.Limits.{maxPlaintext, maxMetadata, tooLong}
+use Rattle.open_frame.specs.Open.{plainOf, isDiffers, decrypted, plainLength, openCauses, causesOfOpen, openAt, opening}
+use Rattle.seal_frame.specs.Frame.{frame}
 use Rattle.store.specs.Suites.{tagSize}
 use Rattle.sframe.specs.Promises.{Holds, Encryption, Openable, OpensExactly}
 
@@ -39,7 +40,7 @@ is-plain (plain p) e = refl
 is-plain differs e = absurd (false≢true (sym e))
 
 pub open-number : (cipher : Cipher) (valid : Bool) (reading : Reading) (held : KeyRecord) (s metadata bytes room : List ℕ)
-    → openAt cipher valid reading held s metadata bytes room .number ≡ first (openCauses cipher valid reading held metadata bytes room)
+    → openAt cipher valid reading held s metadata bytes room .number ≡ first (causesOfOpen cipher valid reading held metadata bytes room)
 unfolding openAt
 open-number cipher valid reading held s metadata bytes room = settled-number _ s room _ refl
 
@@ -114,8 +115,8 @@ module _ (cipher : Cipher) (laws : Laws cipher) (s : List ℕ) (rs : List KeyRec
     module _ (pm : length bytes - n - tagSize (r .suite) ≤ maxPlaintext) (mm : length metadata ≤ maxMetadata) (rm : length bytes - n - tagSize (r .suite) ≤ length room) where
       causes-pass : (p : List ℕ) → tagSize (r .suite) ≤ length bytes - n
           → cipher .decrypt (r .suite) (r .key) (cipher .nonce (r .salt) ctr) (take n bytes ++ metadata) (drop n bytes) ≡ plain p
-          → Pass (openCauses cipher true (Header (record { 0 = kid }) (record { 0 = ctr }) n) (receiving r) metadata bytes room)
-      unfolding openCauses plainLength decrypted
+          → Pass (causesOfOpen cipher true (Header (record { 0 = kid }) (record { 0 = ctr }) n) (receiving r) metadata bytes room)
+      unfolding causesOfOpen openCauses plainLength decrypted
       causes-pass p h e = (
         refl,
         (
@@ -148,9 +149,9 @@ module _ (cipher : Cipher) (laws : Laws cipher) (s : List ℕ) (rs : List KeyRec
       passed : opening cipher s metadata bytes room .number ≡ 0
           → (tagSize (r .suite) ≤ length bytes - n)
           × (isDiffers (cipher .decrypt (r .suite) (r .key) (cipher .nonce (r .salt) ctr) (take n bytes ++ metadata) (drop n bytes)) ≡ false)
-      unfolding openAt openCauses plainLength decrypted
+      unfolding openAt causesOfOpen openCauses plainLength decrypted
       passed e =
-          let p = passes (openCauses cipher true (Header (record { 0 = kid }) (record { 0 = ctr }) n) (receiving r) metadata bytes room) refl (sym (open-number cipher true (Header (record { 0 = kid }) (record { 0 = ctr }) n) (receiving r) s metadata bytes room) ∙ sym (ap (λ (o : Outcome). o .number) open-here) ∙ e) in
+          let p = passes (causesOfOpen cipher true (Header (record { 0 = kid }) (record { 0 = ctr }) n) (receiving r) metadata bytes room) refl (sym (open-number cipher true (Header (record { 0 = kid }) (record { 0 = ctr }) n) (receiving r) s metadata bytes room) ∙ sym (ap (λ (o : Outcome). o .number) open-here) ∙ e) in
           (ltb-false (length bytes - n) (tagSize (r .suite)) (p .1 .1 .1 .1 .0), p .1 .1 .1 .1 .1 .1 .1 .0)
 
 -- ---- a store that holds the key
@@ -204,3 +205,20 @@ module _ (cipher : Cipher) (laws : Laws cipher) where
           (rw length-drop (p .0)) (is-plain d (p .1))
           in
           record { plaintext = plainOf d; octets = f .0; is-frame = f .1 }
+
+-- ---- the list of causes
+
+-- written out, of what is lent
+pub open-causes-are : (cipher : Cipher) (valid : Bool) (reading : Reading) (held : KeyRecord) (metadata bytes room : List ℕ)
+    → causesOfOpen cipher valid reading held metadata bytes room
+    ≡ (storeInvalid if not valid)
+    ∷ (headerInvalid if eqb (readNumber reading) headerInvalid)
+    ∷ (kidMissing if isEmpty held)
+    ∷ (roleRefused if not (isReceiving held))
+    ∷ (frameShort if ltb (length bytes - readLength reading) (tagSize (suiteOf held)))
+    ∷ (inputTooLong if tooLong (plainLength reading held bytes) (length metadata))
+    ∷ (roomShort if ltb (length room) (plainLength reading held bytes))
+    ∷ (tagDiffers if isDiffers (decrypted cipher reading held metadata bytes))
+    ∷ []
+unfolding causesOfOpen openCauses
+open-causes-are cipher valid reading held metadata bytes room = refl

@@ -5,26 +5,29 @@ use mathlib.Core.List.{List, []}
 use Prim.Native.Nat.{ℕ, zero, suc, _/_}
 use lib.ListN.{length, replicate}
 use Rattle.octets.specs.Octets.{Octets}
-use Rattle.store.specs.Answers.{Outcome, settled}
-use Rattle.store.specs.Calls.{make, addAt, add, removeAt, remove}
+use Rattle.answers.specs.Answers.{Outcome, settled}
+use Rattle.store.specs.Calls.{make, removeAt, remove}
+use Rattle.add_key.specs.Add.{addAt, add}
 use Rattle.store.specs.Cipher.{Cipher}
-use Rattle.store.specs.Record.{recordSize, KeyRecord, empty}
+use Rattle.store.specs.Record.{KeyRecord, empty}
 use Rattle.store.specs.Store.{records, sound}
 use Rattle.store.proofs.CipherLaws.{Laws}
-use Rattle.store.proofs.Keys.{make-stored, AddStep, add-step, RemoveStep, remove-step}
+use Rattle.store.proofs.Keys.{make-stored, RemoveStep, remove-step}
+use Rattle.add_key.proofs.Adds.{AddStep, add-step}
 use Rattle.store.proofs.Stores.{Stored, sound-stored, stored-sound, stored-octets}
-use Rattle.sframe.specs.Calls.{sealAt, seal, openAt, opening}
+use Rattle.seal_frame.specs.Seal.{sealAt, seal}
+use Rattle.open_frame.specs.Open.{openAt, opening}
 use Rattle.sframe.specs.Promises.{Unchanged}
 use Rattle.sframe.specs.History.{Call, Add, Remove, Seal, Open, Typed, outcome}
 use Rattle.sframe.proofs.Ledger.{open-store}
-use Rattle.sframe.proofs.Seals.{SealStep, seal-step}
+use Rattle.seal_frame.proofs.Seals.{SealStep, seal-step}
 
 -- bytes that are a table are a sound store
 sound-bytes : (s : List ℕ) (rs : List KeyRecord) → Stored s rs → Octets s × (sound s ≡ true)
 sound-bytes s rs t = (stored-octets s rs t, stored-sound s rs t)
 
 pub made-sound : (s : List ℕ) → make s .number ≡ 0 → Octets (make s .store) × (sound (make s .store) ≡ true)
-made-sound s e = sound-bytes (make s .store) (replicate (length s / recordSize) empty) (make-stored s e)
+made-sound s e = let m = make-stored s e in sound-bytes (make s .store) (replicate (m .count) empty) (m .is-stored)
 
 module _ (cipher : Cipher) (laws : Laws cipher) where
   pub call-sound : (c : Call) (s : List ℕ) → Typed c → Octets s → sound s ≡ true → Octets (outcome cipher c s .store) × (sound (outcome cipher c s .store) ≡ true)

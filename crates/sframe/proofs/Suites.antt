@@ -10,10 +10,10 @@ use Rattle.store.specs.Cipher as Store
 use Rattle.store.specs.Suites.{isSuite, keySize, tagSize}
 use Rattle.store.proofs.CipherLaws.{Laws}
 use Rattle.store.proofs.Suites.{named, key-named, tag-named}
+use Rattle.store.specs.Sframe.{given, keyFor, saltFor, encryptBy, decryptBy, sframe}
 use Rattle.suites.specs.Aead as Aead
 use Rattle.suites.specs.Aead.{plain, differs}
 use Rattle.suites.proofs.Laws as Suites
-use Rattle.sframe.specs.Sframe.{given, keyFor, saltFor, encryptBy, decryptBy, sframe}
 
 given-plain : (d : Aead.Decrypted) (p : List ℕ) → given d ≡ Store.plain p → d ≡ plain p
 given-plain (plain q) p e = let r : q ≡ p = cc in ap plain r

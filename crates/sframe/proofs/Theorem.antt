@@ -12,13 +12,15 @@ use Rattle.store.specs.Calls.{make}
 use Rattle.store.specs.Cipher.{Cipher}
 use Rattle.store.specs.Record.{ReceivingKey}
 use Rattle.store.specs.Store.{sound}
-use Rattle.sframe.specs.Calls.{seal, opening}
-use Rattle.sframe.specs.Promises.{Kept, Openable, OpensExactly, Alike, SameAnswer, Unchanged}
-use Rattle.sframe.specs.Sframe.{sframe}
+use Rattle.seal_frame.specs.Seal.{seal}
+use Rattle.open_frame.specs.Open.{opening}
+use Rattle.sframe.specs.Promises.{Kept, NeverAgain, Openable, OpensExactly, Alike, SameAnswer, Unchanged}
+use Rattle.store.specs.Sframe.{sframe}
 use Rattle.sframe.specs.History.{Call, Typed, AllTyped, outcome, run, start}
 use Rattle.sframe.proofs.Frames.{kept}
 use Rattle.sframe.proofs.Ledger.{run-keeps, start-keeps}
 use Rattle.sframe.proofs.Neighbours.{neighbours-seal, neighbours-open}
+use Rattle.sframe.proofs.Never.{run-fresh, fresh-never}
 use Rattle.sframe.proofs.Opens.{opens-exactly}
 use Rattle.sframe.proofs.Suites.{suites-laws}
 use Rattle.sframe.proofs.Soundness.{made-sound, call-sound, refusal-changes-nothing}
@@ -30,6 +32,11 @@ pub every-list : (s : List ℕ) → make s .number ≡ 0 → (calls : List Call)
 every-list s made calls typed =
     let i = run-keeps sframe suites-laws calls (start s) typed (start-keeps sframe suites-laws s made) in
     kept sframe suites-laws (run sframe calls (start s) .log) (i .account .frames)
+
+-- Over every such list, a KID that was added for sending is not added again, in either role.
+pub never-again : (s : List ℕ) → make s .number ≡ 0 → (calls : List Call) → AllTyped calls → NeverAgain (run sframe calls (start s) .log)
+unfolding start
+never-again s made calls typed = fresh-never (run sframe calls (start s) .log) (run-fresh sframe suites-laws calls (start s) typed (start-keeps sframe suites-laws s made) tt)
 
 -- Opening succeeds exactly when the frame is the RFC's encryption of some plaintext, and yields that plaintext.
 pub opening-exact : (s metadata bytes room : List ℕ) (r : ReceivingKey) (ctr : ℕ) → Openable sframe s metadata bytes room r ctr → OpensExactly sframe s metadata bytes room r ctr

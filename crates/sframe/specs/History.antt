@@ -5,22 +5,20 @@ use Prim.Native.Nat.{ℕ, _^_, _<_}
 use lib.Dec.{eqb}
 use lib.ListN.{take}
 use Rattle.octets.specs.Octets.{Octets, pick}
-use Rattle.store.specs.Answers.{Outcome}
-use Rattle.store.specs.Calls.{make, add, remove}
+use Rattle.answers.specs.Answers.{Outcome}
+use Rattle.store.specs.Calls.{make, remove}
+use Rattle.add_key.specs.Add.{add}
 use Rattle.store.specs.Cipher.{Cipher}
+use Rattle.seal_frame.specs.Seal.{seal}
+use Rattle.open_frame.specs.Open.{opening}
 use Rattle.store.specs.declared.Role.{Role}
-use Rattle.sframe.specs.Calls.{seal, opening}
 
 -- A call with its inputs and its room.
 pub data Call : Type 0 where
-  -- role, KID, suite, base key
-  Add : Role → ℕ → ℕ → List ℕ → Call
-  -- KID
-  Remove : ℕ → Call
-  -- KID, metadata, plaintext, room
-  Seal : ℕ → List ℕ → List ℕ → List ℕ → Call
-  -- metadata, frame, room
-  Open : List ℕ → List ℕ → List ℕ → Call
+  Add : (role : Role) (kid suite : ℕ) (base : List ℕ) → Call
+  Remove : (kid : ℕ) → Call
+  Seal : (kid : ℕ) (metadata plaintext room : List ℕ) → Call
+  Open : (metadata frame room : List ℕ) → Call
 
 -- The inputs are what the types of the code admit: a KID has 64 bits, everything lent is bytes.
 abbrev pub Typed : Call → Type 0

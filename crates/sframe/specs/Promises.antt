@@ -11,17 +11,18 @@ use Rattle.octets.specs.Octets.{Octets, pick}
 use Rattle.header.specs.Answers.{readKid, readCtr, done, readNumber}
 use Rattle.header.specs.Header.{readHeader}
 use Rattle.header.specs.declared.Reading.the-variants.{Header}
-use Rattle.store.specs.Answers.{Outcome}
+use Rattle.answers.specs.Answers.{Outcome}
 use Rattle.store.specs.Cipher.{Cipher}
 use Rattle.store.specs.Record.{ReceivingKey, empty, receiving}
 use Rattle.store.specs.Store.{records, sound}
 use Rattle.store.specs.Table.{holds}
-use Rattle.store.specs.declared.Role.{Role}
-use Rattle.store.specs.declared.Role.the-variants.{Sending, Receiving}
-use Rattle.sframe.specs.Calls.{maxPlaintext, maxMetadata, opening}
-use Rattle.sframe.specs.Frame.{frame}
+use Rattle.answers.specs.Limits.{maxPlaintext, maxMetadata}
+use Rattle.open_frame.specs.Open.{opening}
+use Rattle.seal_frame.specs.Frame.{frame}
 use Rattle.store.specs.Suites.{tagSize}
 use Rattle.sframe.specs.History.{Call, roomOf, Adding, Sealing, Event, added, sealed, other}
+use Rattle.store.specs.declared.Role.{Role}
+use Rattle.store.specs.declared.Role.the-variants.{Sending, Receiving}
 
 -- A sealed frame "carries" the KID and the counter that its own header gives.
 unfoldable pub kidOf : Sealing → ℕ
@@ -35,7 +36,7 @@ abbrev pub Begins : Sealing → Sealing → Type 0
 Begins x y = take (length (x .frame)) (y .frame) ≡ x .frame
 
 -- The Adds for sending of a KID that answered 0, the newest first.
-abbrev pub isSender : ℕ → Adding → Role → Bool
+abbrev pub isSender : (kid : ℕ) (a : Adding) (role : Role) → Bool
 isSender kid a Sending = eqb (a .kid) kid
 isSender kid a Receiving = false
 
@@ -133,6 +134,11 @@ module _ (cipher : Cipher) where
     pub every-frame : (later earlier : List Event) (x : Sealing) → log ≡ later ++ (sealed x ∷ earlier) → Frame x earlier
     pub every-pair : (later between earlier : List Event) (x y : Sealing) → log ≡ later ++ (sealed x ∷ (between ++ (sealed y ∷ earlier)))
         → Pair x (between ++ (sealed y ∷ earlier)) y earlier
+
+-- "That KID is never added again": after an Add for sending that answered 0, no Add of its KID answers 0, in either role. The
+-- events stand the newest first, so b came before a.
+abbrev pub NeverAgain : List Event → Type 0
+NeverAgain log = (later between earlier : List Event) (a b : Adding) → log ≡ later ++ (added a ∷ (between ++ (added b ∷ earlier))) → b .role ≡ Sending → a .kid ≡ b .kid → ⊥
 
 -- ---- neighbours in one store
 

@@ -1,0 +1,88 @@
+-- A KID that was added for sending is never added again. Assumes nothing.
+use mathlib.Core.Path.{_≡_, refl, sym, _∙_, ap}
+use mathlib.Core.Bool.{Bool, true, false}
+use mathlib.Core.List.{List, [], _∷_, _++_}
+use Prim.Native.Nat.{ℕ, _^_, _<_}
+use native.Mathlib.Omega.{arith}
+use lib.Dec.{eqb}
+use lib.ListN.{length}
+use borrow.Author.Tests.{eq-eqb, eqb-true}
+use Rattle.octets.specs.Octets.{Octets}
+use Rattle.answers.specs.Answers.{Outcome}
+use Rattle.answers.proofs.Basics.{Two, yes′, no′, two}
+use Rattle.store.specs.Cipher.{Cipher}
+use Rattle.store.specs.Record.{empty}
+use Rattle.store.specs.Table.{get}
+use Rattle.store.specs.declared.Role.{Role}
+use Rattle.store.specs.declared.Role.the-variants.{Sending, Receiving}
+use Rattle.store.proofs.CipherLaws.{Laws}
+use Rattle.add_key.specs.Add.{add}
+use Rattle.add_key.proofs.Adds.{AddStep, add-step}
+use Rattle.seal_frame.specs.Seal.{seal}
+use Rattle.sframe.specs.History.{Call, Add, Remove, Seal, Open, Typed, AllTyped, Adding, Sealing, Event, added, sealed, other, event, History, outcome, step, run, start}
+use Rattle.sframe.specs.Promises.{isSender, senders, NeverAgain}
+use Rattle.sframe.proofs.Ledger.{Inv, step-keeps}
+
+-- each Add that answered 0, and the events before it: its KID has had no Add for sending
+abbrev pub Fresh : List Event → Type 0
+Fresh [] = Unit {0}
+Fresh (added a ∷ log) = (senders (a .kid) log ≡ []) × Fresh log
+Fresh (sealed x ∷ log) = Fresh log
+Fresh (other ∷ log) = Fresh log
+
+module _ (cipher : Cipher) (laws : Laws cipher) where
+  fresh-add : (h : History) (role : Role) (kid suite : ℕ) (base : List ℕ) → kid < 2 ^ 64 → Octets base → Inv cipher h → add cipher (h .store) role kid suite base .number ≡ 0
+      → senders kid (h .log) ≡ []
+  fresh-add h role kid suite base a b i e = by (add cipher (h .store) role kid suite base) e (add-step cipher laws (h .store) (i .table) (i .is-stored) role kid suite base a b)
+    where
+      by : (o : Outcome) → o .number ≡ 0 → AddStep cipher (h .store) (i .table) role kid suite base o → senders kid (h .log) ≡ []
+      by o z (AddStep.refused d s) = absurd (d z)
+      by o z (AddStep.done n k g c st) = rw g at (i .account .ledger kid)
+
+  fresh-step : (c : Call) (h : History) → Typed c → Inv cipher h → Fresh (h .log) → Fresh (step cipher c h .log)
+  unfolding step outcome event
+  fresh-step (Add role kid suite base) h q i p = by (two (eqb (add cipher (h .store) role kid suite base .number) 0))
+    where
+      by : Two (eqb (add cipher (h .store) role kid suite base .number) 0) → Fresh (step cipher (Add role kid suite base) h .log)
+      by (yes′ t) = rw t (fresh-add h role kid suite base (q .0) (q .1) i (eqb-true _ 0 t), p)
+      by (no′ t) = rw t p
+  fresh-step (Remove kid) h q i p = p
+  fresh-step (Seal kid metadata plaintext room) h q i p = by (two (eqb (seal cipher (h .store) kid metadata plaintext room .number) 0))
+    where
+      by : Two (eqb (seal cipher (h .store) kid metadata plaintext room .number) 0) → Fresh (step cipher (Seal kid metadata plaintext room) h .log)
+      by (yes′ t) = rw t p
+      by (no′ t) = rw t p
+  fresh-step (Open metadata frame room) h q i p = p
+
+  pub run-fresh : (cs : List Call) (h : History) → AllTyped cs → Inv cipher h → Fresh (h .log) → Fresh (run cipher cs h .log)
+  unfolding run
+  run-fresh [] h q i p = p
+  run-fresh (c ∷ cs) h q i p = run-fresh cs (step cipher c h) (q .1) (step-keeps cipher laws c h (q .0) i) (fresh-step c h (q .0) i p)
+
+-- ---- from there to the claim
+
+some-not-none : (a : Adding) (l : List Adding) → a ∷ l ≡ [] → ⊥
+some-not-none a l e = let n = ap length e in omega arith
+
+-- an Add for sending is among the senders of its KID
+among : (kid : ℕ) (between earlier : List Event) (b : Adding) → b .role ≡ Sending → b .kid ≡ kid → senders kid (between ++ (added b ∷ earlier)) ≡ [] → ⊥
+unfolding senders
+among kid [] earlier b r k e =
+    let t : isSender kid b (b .role) ≡ true = ap (isSender kid b) r ∙ eq-eqb (b .kid) kid k in
+    some-not-none b (senders kid earlier) (rw t at e)
+among kid (added a ∷ l) earlier b r k e = by (two (isSender kid a (a .role))) (among kid l earlier b r k)
+  where
+    by : Two (isSender kid a (a .role)) → (senders kid (l ++ (added b ∷ earlier)) ≡ [] → ⊥) → ⊥
+    by (yes′ t) f = some-not-none a _ (rw t at e)
+    by (no′ t) f = f (rw t at e)
+among kid (sealed x ∷ l) earlier b r k e = among kid l earlier b r k e
+among kid (other ∷ l) earlier b r k e = among kid l earlier b r k e
+
+fresh-at : (later rest : List Event) (a : Adding) → Fresh (later ++ (added a ∷ rest)) → senders (a .kid) rest ≡ []
+fresh-at [] rest a p = p .0
+fresh-at (added x ∷ later) rest a p = fresh-at later rest a (p .1)
+fresh-at (sealed x ∷ later) rest a p = fresh-at later rest a p
+fresh-at (other ∷ later) rest a p = fresh-at later rest a p
+
+pub fresh-never : (log : List Event) → Fresh log → NeverAgain log
+fresh-never log p later between earlier a b e r k = among (a .kid) between earlier b r (sym k) (fresh-at later (between ++ (added b ∷ earlier)) a (rw e at p))
