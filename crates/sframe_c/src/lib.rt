@@ -4,17 +4,19 @@
 ghost use mathlib.Core.Path.{_≡_};
 ghost use Rattle.header.specs.Header.{writeHeader, readHeader};
 ghost use Rattle.header.specs.Answers.{writtenNumber, writtenLength, readNumber, readKid, readCtr, readLength};
-ghost use Rattle.store.specs.Calls.{make, add, remove};
+ghost use Rattle.store.specs.Calls.{make, remove};
+ghost use Rattle.store.specs.Sframe.{sframe};
 ghost use Rattle.store.specs.declared.Role.the-variants.{Sending, Receiving};
-ghost use Rattle.sframe.specs.Calls.{seal, opening};
-ghost use Rattle.sframe.specs.Sframe.{sframe};
+ghost use Rattle.add_key.specs.Add.{add};
+ghost use Rattle.seal_frame.specs.Seal.{seal};
+ghost use Rattle.open_frame.specs.Open.{opening};
+use answers::DONE;
+use answers::HEADER_INVALID;
+use answers::ROOM_SHORT;
 use header::Ctr;
 use header::Kid;
 use header::Reading;
 use header::Written;
-use sframe::HEADER_INVALID;
-use sframe::ROOM_SHORT;
-use store::DONE;
 use store::Role;
 
 #[no_mangle]
@@ -76,7 +78,7 @@ pub extern "C" fn sframe_add_sending(store: &mut [u8], kid: u64, suite: u64, bas
     ensures { λ r. ⌜ r ≡ add sframe (now (store .entry)) Sending kid suite (now (base .entry)) .number ⌝ }
     ensures { λ r. ⌜ now (store .exit) ≡ add sframe (now (store .entry)) Sending kid suite (now (base .entry)) .store ⌝ }
 {
-    sframe::adding::add(store, Role::Sending, Kid(kid), suite, base)
+    add_key::add(store, Role::Sending, Kid(kid), suite, base)
 }
 
 #[no_mangle]
@@ -84,7 +86,7 @@ pub extern "C" fn sframe_add_receiving(store: &mut [u8], kid: u64, suite: u64, b
     ensures { λ r. ⌜ r ≡ add sframe (now (store .entry)) Receiving kid suite (now (base .entry)) .number ⌝ }
     ensures { λ r. ⌜ now (store .exit) ≡ add sframe (now (store .entry)) Receiving kid suite (now (base .entry)) .store ⌝ }
 {
-    sframe::adding::add(store, Role::Receiving, Kid(kid), suite, base)
+    add_key::add(store, Role::Receiving, Kid(kid), suite, base)
 }
 
 #[no_mangle]
@@ -109,7 +111,7 @@ pub extern "C" fn sframe_seal(
     ensures { λ r. ⌜ now (store .exit) ≡ seal sframe (now (store .entry)) kid (now (metadata .entry)) (now (plaintext .entry)) (now (out .entry)) .store ⌝ }
     ensures { λ r. ⌜ now (out .exit) ≡ seal sframe (now (store .entry)) kid (now (metadata .entry)) (now (plaintext .entry)) (now (out .entry)) .room ⌝ }
 {
-    let answer = sframe::sealing::seal(store, Kid(kid), metadata, plaintext, out);
+    let answer = seal_frame::seal(store, Kid(kid), metadata, plaintext, out);
     *length = answer.length;
     answer.number
 }
@@ -126,7 +128,7 @@ pub extern "C" fn sframe_open(
     ensures { λ r. ⌜ now (length .exit) ≡ opening sframe (now (store .entry)) (now (metadata .entry)) (now (frame .entry)) (now (out .entry)) .written ⌝ }
     ensures { λ r. ⌜ now (out .exit) ≡ opening sframe (now (store .entry)) (now (metadata .entry)) (now (frame .entry)) (now (out .entry)) .room ⌝ }
 {
-    let answer = sframe::opening::open(store, frame, metadata, out);
+    let answer = open_frame::open(store, frame, metadata, out);
     *length = answer.length;
     answer.number
 }

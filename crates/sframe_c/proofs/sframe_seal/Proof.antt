@@ -2,9 +2,17 @@ use borrow.Author.Needs.{needs}
 use Rattle.sframe_c.proofs.sframe_seal.Statement.{statement}
 use Rattle.sframe_c.proofs.sframe_seal.Tie as tie
 
+-- ---- points of the program, each reached from a later one
+
+abbrev to-seal : tie.After-slice-known4 → tie.After-seal
+to-seal c = c .before .before .before .before
+
+-- ----
+
 returns : tie.Need-returns
 returns c =
-    let e = c .before .before .before .before .seal .ensures in
+    let at-seal = to-seal c in
+    let e = at-seal .seal .ensures in
     (e .0 .0, (e .0 .1, e .1))
 
 pub sframe-seal-spec : {M : Type 1} → statement M
