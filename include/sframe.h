@@ -55,7 +55,7 @@ enum sframe_answer {
     SFRAME_COUNTER_SPENT = 8,
     /* The plaintext exceeds SFRAME_MAX_PLAINTEXT, or the metadata SFRAME_MAX_METADATA. */
     SFRAME_TOO_LONG = 9,
-    /* The header is cut short, or not in its shortest form. */
+    /* The header is cut short. */
     SFRAME_HEADER_INVALID = 10,
     /* The bytes behind the header are fewer than a tag has. */
     SFRAME_FRAME_SHORT = 11,
@@ -142,9 +142,9 @@ uint32_t sframe_seal(uint8_t *store, size_t store_len, uint64_t kid, const uint8
 
 /*
  * Opens a frame, given the metadata of its sealing, and writes the plaintext to the start of out. The
- * store is not changed. Nothing is written before the tag is found to match. What counts as plaintext
- * for SFRAME_TOO_LONG are the bytes between header and tag. A room as long as the frame always
- * suffices.
+ * store is not changed. Nothing is written before the tag is found to match. The tag is over the header
+ * as it was received, in its shortest form or a longer one. What counts as plaintext for
+ * SFRAME_TOO_LONG are the bytes between header and tag. A room as long as the frame always suffices.
  *
  * SFRAME_DONE: *length is the plaintext's length, and the room beyond it stays as it was.
  * Else the first of SFRAME_STORE_NOT_SOUND, SFRAME_HEADER_INVALID, SFRAME_KID_UNKNOWN,
@@ -163,11 +163,10 @@ uint32_t sframe_open(const uint8_t *store, size_t store_len, const uint8_t *fram
 uint32_t sframe_write_header(uint64_t kid, uint64_t ctr, uint8_t *out, size_t out_len, size_t *length);
 
 /*
- * Reads the header at the front of the bytes, whatever follows it.
+ * Reads the header at the front of the bytes, whatever follows it. A number may stand in more bytes than it needs.
  *
  * SFRAME_DONE: *kid, *ctr and *length are the header's two numbers and its length.
- * SFRAME_HEADER_INVALID: the bytes end before the header does, or a number is not in its shortest form;
- * *kid, *ctr and *length are 0.
+ * SFRAME_HEADER_INVALID: the bytes end before the header does; *kid, *ctr and *length are 0.
  */
 uint32_t sframe_read_header(const uint8_t *bytes, size_t bytes_len, uint64_t *kid, uint64_t *ctr, size_t *length);
 

@@ -1,23 +1,25 @@
 -- Laws of the header, for this crate's proofs and for those above it. Assumes nothing.
 use mathlib.Core.Path.{_≡_, refl, sym, _∙_, ap, ap₂}
-use mathlib.Core.Bool.{Bool, true, false, false≢true}
+use mathlib.Core.Bool.{Bool, true, false}
 use mathlib.Core.List.{List, [], _∷_, _++_, append-assoc}
+use mathlib.Core.Logic.{_↔_}
 use Prim.Native.Nat.{ℕ, zero, suc, _+_, _*_, _/_, _%_, _^_, _-_, _<_, _≤_}
 use native.Mathlib.Nat.{pow-suc, pow-le-pow-right, lt-of-lt-of-le, mod-eq-of-lt, le-trans}
 use native.Mathlib.Omega.{arith}
 use lib.Count.{leadingZeros, leading-top}
 use lib.Dec.{leb, ltb, eqb}
-use lib.ListN.{length, take, drop, length-append, length-drop}
+use lib.ListN.{length, getD, take, drop, length-append, length-drop}
 use lib.Pow.{pow-add, pow-mono}
-use lib.Seq.{drop-at, take-add}
-use borrow.Author.Tests.{lt-ltb, le-ltb, le-leb, eq-eqb, ltb-true, ltb-false, leb-true, leb-false, eqb-true, eqb-false}
-use Rattle.octets.specs.Octets.{Octets, number, bytes, pick, both}
-use Rattle.octets.proofs.Laws.{bytes-length, bytes-zero, bytes-number, number-bytes, number-append, number-lt, octets-drop}
-use Rattle.header.specs.Header.{size, flag, code, width, config, maxHeader, header, readBytes, readField, withCounter, readCounter, readHeader}
+use lib.Seq.{drop-at, take-add, length-take-le}
+use borrow.Author.Tests.{lt-ltb, le-ltb, le-leb, lt-leb, ltb-true, ltb-false, leb-true, leb-false}
+use Rattle.octets.specs.Octets.{Octets, number, bytes, pick}
+use Rattle.octets.proofs.Laws.{bytes-length, number-bytes, number-append, number-take, number-lt, octets-drop}
+use Rattle.header.specs.Header.{size, flag, code, width, config, maxHeader, header, readBytes, readField, withCounter, readCounter, readHeader, fieldBytes, announced, CutShort}
 use Rattle.header.specs.declared.Ctr.{Ctr}
 use Rattle.header.specs.declared.Field.{Field}
 use Rattle.header.specs.declared.Field.the-variants.{Value, Refused}
 use Rattle.header.specs.declared.Kid.{Kid}
+use Rattle.header.specs.declared.Reading.{Reading}
 use Rattle.header.specs.declared.Reading.the-variants.{Header, Invalid}
 
 -- the two outcomes of a test
@@ -83,10 +85,10 @@ field-bits v h = by (two (ltb v 8))
         let s = sized v (omega (arith, ltb-false v 8 e)) h in
         record { flag-bit = rw e (omega arith); code-bits = rw e (omega (arith, s .some, s .most)); width-most = rw e (s .most) }
 
--- bytes that hold a value in its shortest form are read
-read-bytes : (n v : ℕ) (l : List ℕ) → n ≤ length l → number n l ≡ v → 8 ≤ v → size v ≡ n → readBytes n l ≡ Value v n
+-- bytes that hold a value are read
+read-bytes : (n v : ℕ) (l : List ℕ) → n ≤ length l → number n l ≡ v → readBytes n l ≡ Value v n
 unfolding readBytes
-read-bytes n v l h e k q = rw (le-leb n (length l) h, e, le-leb 8 v k, eq-eqb (size v) n q)
+read-bytes n v l h e = rw (le-leb n (length l) h, e)
 
 -- the flag and the three bits together, where n bytes follow
 pub nibble-short : (v : ℕ) → v < 8 → v ≡ flag v * 8 + code v
@@ -118,102 +120,91 @@ field-read v rest h = by (two (ltb v 8))
         let w : number (size v) (bytes (size v) v ++ rest) ≡ v =
         number-append (size v) (bytes (size v) v) rest (omega arith) ∙ number-bytes (size v) v ∙ mod-eq-of-lt (s .holds)
         in
-        rw (e, n) (read-bytes (size v) v (bytes (size v) v ++ rest) (rw length-append (omega arith)) w (ltb-false v 8 e) refl)
+        rw (e, n) (read-bytes (size v) v (bytes (size v) v ++ rest) (rw length-append (omega arith)) w)
 
--- and what is read as a field is that value's own form
-pub record FieldRead (x k : ℕ) (l : List ℕ) (v n : ℕ) : Type 0 where
-  pub flag-is : flag v ≡ x
-  pub code-is : code v ≡ k
-  pub width-is : width v ≡ n
-  pub inside : n ≤ length l
-  pub bytes-are : take n l ≡ bytes n v
-  pub below : v < 2 ^ 64
+-- ---- a field as it is received
 
-pick-true : {A : Type 0} (t : Bool) (a b r : A) → (b ≡ r → ⊥) → pick t a b ≡ r → (t ≡ true) × (a ≡ r)
-pick-true true a b r d e = (refl, e)
-pick-true false a b r d e = absurd (d e)
+-- the value of a field whose bytes are there
+abbrev valueOf : (x k : ℕ) (l : List ℕ) → ℕ
+valueOf x k l = pick (eqb x 0) k (number (k + 1) l)
 
-both-true : (a b : Bool) → both a b ≡ true → (a ≡ true) × (b ≡ true)
-both-true true true e = (refl, refl)
-both-true true false e = (refl, e)
-both-true false b e = (e, absurd (false≢true e))
+-- it is read where its bytes are there, and where they are not it is refused
+field-there : (x k : ℕ) (l : List ℕ) → fieldBytes x k ≤ length l → readField x k l ≡ Value (valueOf x k l) (fieldBytes x k)
+unfolding readField fieldBytes
+field-there x k l h = by (two (eqb x 0))
+  where
+    by : Two (eqb x 0) → readField x k l ≡ Value (valueOf x k l) (fieldBytes x k)
+    by (yes′ t) = rw t
+    by (no′ t) = rw t (read-bytes (k + 1) (number (k + 1) l) l (rw t at h) refl)
+
+field-cut : (x k : ℕ) (l : List ℕ) → length l < fieldBytes x k → readField x k l ≡ Refused
+unfolding readField readBytes fieldBytes
+field-cut x k l h = by (two (eqb x 0))
+  where
+    by : Two (eqb x 0) → readField x k l ≡ Refused
+    by (yes′ t) = let z : length l < 0 = rw t at h in absurd (omega arith)
+    by (no′ t) = rw (t, lt-leb (k + 1) (length l) (rw t at h))
 
 refused-no-value : (v n : ℕ) → Refused ≡ Value v n → ⊥
 refused-no-value v n e = let z : _≡_ {A = ℕ} 0 1 = cc in omega arith
 
--- what bytes that are read as a field have been found to be
-record BytesRead (m : ℕ) (l : List ℕ) (v n : ℕ) : Type 0 where
-  inside : m ≤ length l
-  value-is : number m l ≡ v
-  large : 8 ≤ v
-  size-is : size v ≡ m
-  taken : m ≡ n
+-- what is read of it: its bytes and no others
+record FieldRead (x k : ℕ) (l : List ℕ) (v n : ℕ) : Type 0 where
+  length-is : n ≡ fieldBytes x k
+  inside : n ≤ length l
+  value-is : v ≡ valueOf x k l
 
-bytes-read : (m v n : ℕ) (l : List ℕ) → readBytes m l ≡ Value v n → BytesRead m l v n
-unfolding readBytes
-bytes-read m v n l e =
-    let a = pick-true _ _ _ _ (refused-no-value v n) e in
-    let b = pick-true _ _ _ _ (refused-no-value v n) (a .1) in
-    let t = both-true _ _ (b .0) in
-    let c : Value (number m l) m ≡ Value v n = b .1 in
-    let vn : number m l ≡ v = cc in
-    record {
-      inside = leb-true m (length l) (a .0);
-      value-is = vn;
-      large = rw vn at (leb-true 8 (number m l) (t .0));
-      size-is = rw vn at (eqb-true (size (number m l)) m (t .1));
-      taken = cc;
-    }
+field-found : (x k v n : ℕ) (l : List ℕ) → readField x k l ≡ Value v n → FieldRead x k l v n
+field-found x k v n l e = by (two (leb (fieldBytes x k) (length l)))
+  where
+    by : Two (leb (fieldBytes x k) (length l)) → FieldRead x k l v n
+    by (yes′ t) =
+        let h = leb-true (fieldBytes x k) (length l) t in
+        let q : Value (valueOf x k l) (fieldBytes x k) ≡ Value v n = sym (field-there x k l h) ∙ e in
+        let m : fieldBytes x k ≡ n = cc in
+        record { length-is = sym m; inside = rw m at h; value-is = cc }
+    by (no′ t) = absurd (refused-no-value v n (sym (field-cut x k l (leb-false (fieldBytes x k) (length l) t)) ∙ e))
 
 -- a field takes no more bytes than there are
 pub field-inside : (x k v n : ℕ) (l : List ℕ) → readField x k l ≡ Value v n → n ≤ length l
-unfolding readField
-field-inside x k v n l e = by (two (eqb x 0))
-  where
-    by : Two (eqb x 0) → n ≤ length l
-    by (yes′ t) =
-        let r : Value k 0 ≡ Value v n = rw t at e in
-        let z : 0 ≡ n = cc in
-        omega arith
-    by (no′ t) = let r = bytes-read (k + 1) v n l (rw t at e) in omega (arith, r .inside, r .taken)
+field-inside x k v n l e = field-found x k v n l e .inside
 
-field-long : (m v n : ℕ) (l : List ℕ) → m ≤ 8 → Octets l → readBytes m l ≡ Value v n → FieldRead 1 (m - 1) l v n
-unfolding flag code width
-field-long m v n l h o e =
-    let r = bytes-read m v n l e in
-    let f : ltb v 8 ≡ false = le-ltb v 8 (r .large) in
-    record {
-      flag-is = rw f;
-      code-is = rw (f, r .size-is);
-      width-is = rw (f, r .size-is, r .taken);
-      inside = rw (r .taken) at (r .inside);
-      bytes-are = rw (← (r .taken), ← (r .value-is)) (sym (bytes-number m l o (r .inside)));
-      below = rw (r .value-is) at (lt-of-lt-of-le (number-lt m l o) (pow-le-pow-right {n = 256} (omega arith) h));
-    }
-
-field-written : (x k v n : ℕ) (l : List ℕ) → x < 2 → k < 8 → Octets l → readField x k l ≡ Value v n → FieldRead x k l v n
-unfolding readField flag code width
-field-written x k v n l hx hk o e = by (two (eqb x 0))
+-- it has 8 bytes at most, and its value 64 bits
+field-most : (x k : ℕ) → k < 8 → fieldBytes x k ≤ 8
+unfolding fieldBytes
+field-most x k h = by (two (eqb x 0))
   where
-    by : Two (eqb x 0) → FieldRead x k l v n
-    by (yes′ t) =
-        let z : x ≡ 0 = eqb-true x 0 t in
-        let r : Value k 0 ≡ Value v n = rw t at e in
-        let kv : k ≡ v = cc in
-        let n0 : 0 ≡ n = cc in
-        let f : ltb v 8 ≡ true = lt-ltb v 8 (rw kv at hk) in
-        record {
-          flag-is = rw (f, z);
-          code-is = rw f (sym kv);
-          width-is = rw f n0;
-          inside = rw (← n0) (omega arith);
-          bytes-are = rw (← n0, bytes-zero);
-          below = omega arith;
-        }
+    by : Two (eqb x 0) → fieldBytes x k ≤ 8
+    by (yes′ t) = rw t (omega arith)
+    by (no′ t) = rw t (omega arith)
+
+value-below : (x k : ℕ) (l : List ℕ) → k < 8 → Octets l → valueOf x k l < 2 ^ 64
+value-below x k l h o = by (two (eqb x 0))
+  where
+    by : Two (eqb x 0) → valueOf x k l < 2 ^ 64
+    by (yes′ t) = rw t (omega arith)
     by (no′ t) =
-        let z : x ≡ 1 = omega (arith, eqb-false x 0 t) in
-        let k1 : k + 1 - 1 ≡ k = omega arith in
-        rw z (rw k1 at (field-long (k + 1) v n l (omega arith) o (rw t at e)))
+        let m : k + 1 ≤ 8 = omega arith in
+        rw t (lt-of-lt-of-le (number-lt (k + 1) l o) (pow-le-pow-right {n = 256} (omega arith) m))
+
+-- its own bytes are read as it was, whatever follows them
+field-front : (x k v n : ℕ) (l rest : List ℕ) → readField x k l ≡ Value v n → readField x k (take n l ++ rest) ≡ Value v n
+unfolding fieldBytes
+field-front x k v n l rest e =
+    field-there x k (take n l ++ rest) (rw (← (f .length-is), length-append, taken) (omega arith))
+    ∙ ap₂ Value (same-value (two (eqb x 0)) ∙ sym (f .value-is)) (sym (f .length-is))
+  where
+    f : FieldRead x k l v n
+    f = field-found x k v n l e
+
+    taken : length (take n l) ≡ n
+    taken = length-take-le n l (f .inside)
+
+    same-value : Two (eqb x 0) → valueOf x k (take n l ++ rest) ≡ valueOf x k l
+    same-value (yes′ t) = rw t
+    same-value (no′ t) =
+        let m : n ≡ k + 1 = rw t at (f .length-is) in
+        rw t (number-append (k + 1) (take n l) rest (rw taken (omega arith)) ∙ number-take (k + 1) n l (omega arith))
 
 -- ---- the header
 
@@ -268,61 +259,129 @@ read-header kid ctr rest hk hc =
     ∙ field-read ctr rest hc)
     ∙ ap (Header (record { 0 = kid }) (record { 0 = ctr })) (sym (header-size kid ctr))
 
--- what is read as a header is the header of that KID and CTR, and no longer form of it
-pub record HeaderRead (l : List ℕ) (kid ctr n : ℕ) : Type 0 where
-  pub kid-below : kid < 2 ^ 64
-  pub ctr-below : ctr < 2 ^ 64
-  pub length-is : n ≡ length (header kid ctr)
-  pub inside : n ≤ length l
-  pub front : take n l ≡ header kid ctr
+-- ---- a header as it is received
 
 invalid-no-header : (k : Kid) (c : Ctr) (n : ℕ) → Invalid ≡ Header k c n → ⊥
 invalid-no-header k c n e = let z : _≡_ {A = ℕ} 0 1 = cc in omega arith
 
-config-whole : (b x k y c : ℕ) → x ≡ b / 128 → k ≡ b / 16 % 8 → y ≡ b / 8 % 2 → c ≡ b % 8 → b ≡ x * 128 + k * 16 + y * 8 + c
-config-whole b x k y c hx hk hy hc = omega arith
+-- its two fields
+record FieldsRead (b : ℕ) (l : List ℕ) (kid ctr n : ℕ) : Type 0 where
+  kid-length : ℕ
+  ctr-length : ℕ
+  kid-read : readField (b / 128) (b / 16 % 8) l ≡ Value kid kid-length
+  ctr-read : readField (b / 8 % 2) (b % 8) (drop kid-length l) ≡ Value ctr ctr-length
+  whole : 1 + kid-length + ctr-length ≡ n
 
-both-fields : (b kid a ctr n : ℕ) (l : List ℕ) → Octets (b ∷ l) → FieldRead (b / 128) (b / 16 % 8) l kid a → FieldRead (b / 8 % 2) (b % 8) (drop a l) ctr n
-    → HeaderRead (b ∷ l) kid ctr (1 + a + n)
-unfolding header config
-both-fields b kid a ctr n l o p q =
-    let e : 1 + a + n ≡ suc (a + n) = omega arith in
-    record {
-      kid-below = p .below;
-      ctr-below = q .below;
-      length-is = rw (header-size, p .width-is, q .width-is);
-      inside = omega (arith, p .inside, simp length-drop at (q .inside));
-      front =
-          ap (λ (k : ℕ). take k (b ∷ l)) e
-          ∙ ap₂ (λ (d : ℕ) (t : List ℕ). d ∷ t)
-          (config-whole b (flag kid) (code kid) (flag ctr) (code ctr) (p .flag-is) (p .code-is) (q .flag-is) (q .code-is))
-          (take-add a n l ∙ rw (p .bytes-are, q .bytes-are, p .width-is, q .width-is));
-    }
+fields-read : (b : ℕ) (l : List ℕ) (k : Kid) (c : Ctr) (n : ℕ) → readHeader (b ∷ l) ≡ Header k c n → FieldsRead b l (k .0) (c .0) n
+unfolding readHeader readCounter withCounter
+fields-read b l k c n e = kid-then (readField (b / 128) (b / 16 % 8) l) refl e
+  where
+    ctr-then : (kid a : ℕ) → readField (b / 128) (b / 16 % 8) l ≡ Value kid a → (f : Field) → readField (b / 8 % 2) (b % 8) (drop a l) ≡ f
+        → withCounter kid a f ≡ Header k c n → FieldsRead b l (k .0) (c .0) n
+    ctr-then kid a p Refused q w = absurd (invalid-no-header k c n w)
+    ctr-then kid a p (Value ctr m) q w =
+        let w′ : Header (record { 0 = kid }) (record { 0 = ctr }) (1 + a + m) ≡ Header k c n = w in
+        let ek : record { 0 = kid } ≡ k = cc in
+        let ec : record { 0 = ctr } ≡ c = cc in
+        let kk : kid ≡ k .0 = ap (λ (x : Kid). x .0) ek in
+        let cc′ : ctr ≡ c .0 = ap (λ (x : Ctr). x .0) ec in
+        record { kid-length = a; ctr-length = m; kid-read = p ∙ ap (λ (v : ℕ). Value v a) kk; ctr-read = q ∙ ap (λ (v : ℕ). Value v m) cc′; whole = cc }
+
+    kid-then : (f : Field) → readField (b / 128) (b / 16 % 8) l ≡ f → readCounter b l f ≡ Header k c n → FieldsRead b l (k .0) (c .0) n
+    kid-then Refused q w = absurd (invalid-no-header k c n w)
+    kid-then (Value kid a) q w = ctr-then kid a q (readField (b / 8 % 2) (b % 8) (drop a l)) refl w
+
+-- it has the length that its first byte announces, and all of it is there
+spans : (b : ℕ) (l : List ℕ) (k : Kid) (c : Ctr) (n : ℕ) → readHeader (b ∷ l) ≡ Header k c n → (n ≡ announced b) × (n ≤ length (b ∷ l))
+unfolding announced
+spans b l k c n e =
+    let p = fields-read b l k c n e in
+    let x = field-found _ _ _ _ l (p .kid-read) in
+    let y = field-found _ _ _ _ (drop (p .kid-length) l) (p .ctr-read) in
+    (omega (arith, p .whole, x .length-is, y .length-is), omega (arith, p .whole, x .inside, simp length-drop at (y .inside)))
+
+-- two numbers of 64 bits, in 1 to 17 bytes
+pub record HeaderRead (l : List ℕ) (kid ctr n : ℕ) : Type 0 where
+  pub kid-below : kid < 2 ^ 64
+  pub ctr-below : ctr < 2 ^ 64
+  pub length-is : n ≡ announced (getD l 0 0)
+  pub least : 1 ≤ n
+  pub most : n ≤ maxHeader
+  pub inside : n ≤ length l
 
 pub header-read : (l : List ℕ) (k : Kid) (c : Ctr) (n : ℕ) → Octets l → readHeader l ≡ Header k c n → HeaderRead l (k .0) (c .0) n
-unfolding readHeader readCounter withCounter
+unfolding readHeader
 header-read [] k c n o e = absurd (invalid-no-header k c n e)
-header-read (b ∷ l) k c n o e = kid-read (readField (b / 128) (b / 16 % 8) l) refl e
+header-read (b ∷ l) k c n o e =
+    let p = fields-read b l k c n e in
+    let s = spans b l k c n e in
+    let x = field-found _ _ _ _ l (p .kid-read) in
+    let y = field-found _ _ _ _ (drop (p .kid-length) l) (p .ctr-read) in
+    let mx = field-most (b / 128) (b / 16 % 8) (omega arith) in
+    let my = field-most (b / 8 % 2) (b % 8) (omega arith) in
+    record {
+      kid-below = rw (x .value-is) (value-below (b / 128) (b / 16 % 8) l (omega arith) rest);
+      ctr-below = rw (y .value-is) (value-below (b / 8 % 2) (b % 8) (drop (p .kid-length) l) (omega arith) (octets-drop (p .kid-length) l rest));
+      length-is = s .0;
+      least = omega (arith, p .whole);
+      most = omega (arith, p .whole, x .length-is, y .length-is, mx, my);
+      inside = s .1;
+    }
   where
     rest : Octets l
     rest i = o (suc i)
 
-    ctr-read : (kid a : ℕ) → FieldRead (b / 128) (b / 16 % 8) l kid a → (f : Field) → readField (b / 8 % 2) (b % 8) (drop a l) ≡ f → withCounter kid a f ≡ Header k c n
-        → HeaderRead (b ∷ l) (k .0) (c .0) n
-    ctr-read kid a p Refused q w = absurd (invalid-no-header k c n w)
-    ctr-read kid a p (Value ctr m) q w =
-        let w′ : Header (record { 0 = kid }) (record { 0 = ctr }) (1 + a + m) ≡ Header k c n = w in
-        let ek : record { 0 = kid } ≡ k = cc in
-        let ec : record { 0 = ctr } ≡ c = cc in
-        let en : 1 + a + m ≡ n = cc in
-        let kk : kid ≡ k .0 = ap (λ (x : Kid). x .0) ek in
-        let cc′ : ctr ≡ c .0 = ap (λ (x : Ctr). x .0) ec in
-        rw (kk, cc′, en) at (both-fields b kid a ctr m l o p (field-written (b / 8 % 2) (b % 8) ctr m (drop a l) (omega arith) (omega arith) (octets-drop a l rest) q))
+-- and where its bytes are all there it is read
+all-there : (b : ℕ) (l : List ℕ) → announced b ≤ length (b ∷ l) → readHeader (b ∷ l) ≡ Invalid → ⊥
+unfolding announced
+all-there b l h e =
+    let a = fieldBytes (b / 128) (b / 16 % 8) in
+    let c = fieldBytes (b / 8 % 2) (b % 8) in
+    invalid-no-header _ _ _
+    (sym e
+    ∙ read-parts b (b / 128) (b / 16 % 8) (b / 8 % 2) (b % 8) _ a _ c l (record { x-is = refl; k-is = refl; y-is = refl; c-is = refl })
+    (field-there _ _ l (omega arith))
+    (field-there _ _ (drop a l) (rw length-drop (omega arith))))
 
-    kid-read : (f : Field) → readField (b / 128) (b / 16 % 8) l ≡ f → readCounter b l f ≡ Header k c n → HeaderRead (b ∷ l) (k .0) (c .0) n
-    kid-read Refused q w = absurd (invalid-no-header k c n w)
-    kid-read (Value kid a) q w =
-        ctr-read kid a (field-written (b / 128) (b / 16 % 8) kid a l (omega (arith, o 0)) (omega arith) rest q) (readField (b / 8 % 2) (b % 8) (drop a l)) refl w
+there : (l : List ℕ) → readHeader l ≡ Invalid → CutShort l
+there [] e = tt
+there (b ∷ l) e = by (two (leb (announced b) (length (b ∷ l))))
+  where
+    by : Two (leb (announced b) (length (b ∷ l))) → CutShort (b ∷ l)
+    by (yes′ t) = absurd (all-there b l (leb-true (announced b) (length (b ∷ l)) t) e)
+    by (no′ t) = leb-false (announced b) (length (b ∷ l)) t
+
+back : (l : List ℕ) → CutShort l → readHeader l ≡ Invalid
+unfolding readHeader
+back [] h = refl
+back (b ∷ l) h = by (readHeader (b ∷ l)) refl
+  where
+    by : (r : Reading) → readHeader (b ∷ l) ≡ r → readHeader (b ∷ l) ≡ Invalid
+    by Invalid q = q
+    by (Header k c n) q = let s = spans b l k c n q in absurd (omega (arith, s .0, s .1, h))
+
+-- a header is refused exactly when it is cut short
+pub cut-short : (l : List ℕ) → (readHeader l ≡ Invalid) ↔ CutShort l
+cut-short l = (there l, back l)
+
+-- its own bytes are read as it was, whatever follows them
+pub header-front : (l rest : List ℕ) (k : Kid) (c : Ctr) (n : ℕ) → readHeader l ≡ Header k c n → readHeader (take n l ++ rest) ≡ Header k c n
+unfolding readHeader
+header-front [] rest k c n e = absurd (invalid-no-header k c n e)
+header-front (b ∷ l) rest k c n e =
+    let p = fields-read b l k c n e in
+    let a = p .kid-length in
+    let m = p .ctr-length in
+    let w : n ≡ suc (a + m) = omega (arith, p .whole) in
+    let s : take n (b ∷ l) ++ rest ≡ b ∷ (take a l ++ (take m (drop a l) ++ rest)) =
+    ap (λ (j : ℕ). take j (b ∷ l) ++ rest) w ∙ ap (λ (t : List ℕ). b ∷ t) (ap (λ (t : List ℕ). t ++ rest) (take-add a m l) ∙ append-assoc (take a l) (take m (drop a l)) rest)
+    in
+    ap readHeader s
+    ∙ read-parts b (b / 128) (b / 16 % 8) (b / 8 % 2) (b % 8) (k .0) a (c .0) m (take a l ++ (take m (drop a l) ++ rest)) (record { x-is = refl; k-is = refl; y-is = refl; c-is = refl })
+    (field-front _ _ (k .0) a l (take m (drop a l) ++ rest) (p .kid-read))
+    (ap (readField (b / 8 % 2) (b % 8)) (drop-at (take a l) (take m (drop a l) ++ rest) a (length-take-le a l (field-inside _ _ _ a l (p .kid-read))))
+    ∙ field-front _ _ (c .0) m (drop a l) rest (p .ctr-read))
+    ∙ ap (Header k c) (p .whole)
 
 -- bytes that begin with two headers begin with one: neither begins the other
 pub header-begins : (kid ctr kid′ ctr′ : ℕ) (x y : List ℕ) → kid < 2 ^ 64 → ctr < 2 ^ 64 → kid′ < 2 ^ 64 → ctr′ < 2 ^ 64

@@ -68,17 +68,9 @@ module _ (x k : ℕ) (l : List ℕ) where
   unfolding readField readBytes
   cut d h = rw (ne-eqb x 0 d, lt-leb (k + 1) (length l) h)
 
-  pub too-small : (v : ℕ) → (x ≡ 0 → ⊥) → k + 1 ≤ length l → v ≡ number (k + 1) l → v < 8 → Refused ≡ readField x k l
+  pub whole-field : (v : ℕ) → (x ≡ 0 → ⊥) → k + 1 ≤ length l → v ≡ number (k + 1) l → Value v (k + 1) ≡ readField x k l
   unfolding readField readBytes
-  too-small v d h e s = rw (ne-eqb x 0 d, le-leb (k + 1) (length l) h, ← e, lt-leb 8 v s)
-
-  pub too-long : (v n : ℕ) → (x ≡ 0 → ⊥) → k + 1 ≤ length l → v ≡ number (k + 1) l → 8 ≤ v → n ≡ size v → (n ≡ k + 1 → ⊥) → Refused ≡ readField x k l
-  unfolding readField readBytes
-  too-long v n d h e s q w = rw (ne-eqb x 0 d, le-leb (k + 1) (length l) h, ← e, le-leb 8 v s, ← q, ne-eqb n (k + 1) w)
-
-  pub shortest : (v n : ℕ) → (x ≡ 0 → ⊥) → k + 1 ≤ length l → v ≡ number (k + 1) l → 8 ≤ v → n ≡ size v → n ≡ k + 1 → Value v (k + 1) ≡ readField x k l
-  unfolding readField readBytes
-  shortest v n d h e s q w = rw (ne-eqb x 0 d, le-leb (k + 1) (length l) h, ← e, le-leb 8 v s, ← q, eq-eqb n (k + 1) w)
+  whole-field v d h e = rw (ne-eqb x 0 d, le-leb (k + 1) (length l) h, ← e)
 
 -- ---- reading the header
 

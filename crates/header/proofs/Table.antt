@@ -1,4 +1,4 @@
--- Worked examples of the header, as one table: twelve vectors, written and read, and two forms that are refused.
+-- Worked examples of the header, as one table: twelve vectors, written and read, and two longer forms that are read.
 -- Assumes nothing.
 use mathlib.Core.Path.{_≡_, refl}
 use mathlib.Core.List.{List, [], _∷_}
@@ -6,7 +6,7 @@ use Prim.Native.Nat.{ℕ}
 use lib.ListN.{length}
 use Rattle.octets.specs.Octets.{number, bytes}
 use Rattle.header.specs.Header.{size, flag, code, width, config, header, readBytes, readField, withCounter, readCounter, readHeader}
-use Rattle.header.specs.declared.Reading.the-variants.{Header, Invalid}
+use Rattle.header.specs.declared.Reading.the-variants.{Header}
 
 record Vector : Type 0 where
   kid : ℕ
@@ -39,8 +39,10 @@ abbrev Each : (Vector → Type 0) → List Vector → Type 0
 Each P [] = Unit {0}
 Each P (v ∷ vs) = P v × Each P vs
 
--- every vector is right, and the longer forms 0805 and 9000ff are refused
-table : Each Right vectors × (readHeader (0x08 ∷ 0x05 ∷ []) ≡ Invalid) × (readHeader (0x90 ∷ 0x00 ∷ 0xff ∷ []) ≡ Invalid)
+-- every vector is right, and the longer forms 0805 and 9000ff read as CTR 5 and KID 255
+table : Each Right vectors
+    × (readHeader (0x08 ∷ 0x05 ∷ []) ≡ Header (record { 0 = 0 }) (record { 0 = 5 }) 2)
+    × (readHeader (0x90 ∷ 0x00 ∷ 0xff ∷ []) ≡ Header (record { 0 = 0xff }) (record { 0 = 0 }) 3)
 unfolding number bytes size flag code width config header readBytes readField withCounter readCounter readHeader lib.Count.leadingZeros
 table = (
   (

@@ -1,5 +1,5 @@
 -- The number and the values that each answer about a header stands for, as a caller outside the layer gets them.
--- The numbers are the layer's own: 0 done, 10 header cut short or not shortest, 12 room shorter than the result.
+-- The numbers are the layer's own: 0 done, 10 header cut short, 12 room shorter than the result.
 -- Assumes nothing.
 use Prim.Native.Nat.{ℕ}
 use Rattle.header.specs.declared.Reading.{Reading}

@@ -1,11 +1,11 @@
 -- The SFrame header, RFC 9605 section 4.3. A Key ID (KID) and a counter (CTR) are numbers of 64 bits.
 -- Assumes nothing.
 use mathlib.Core.List.{List, [], _∷_, _++_}
-use Prim.Native.Nat.{ℕ, _+_, _*_, _-_, _/_, _%_}
+use Prim.Native.Nat.{ℕ, _+_, _*_, _-_, _/_, _%_, _<_}
 use lib.Count.{leadingZeros}
 use lib.Dec.{leb, ltb, eqb}
 use lib.ListN.{length, drop}
-use Rattle.octets.specs.Octets.{number, bytes, pick, both}
+use Rattle.octets.specs.Octets.{number, bytes, pick}
 use Rattle.header.specs.declared.Field.{Field}
 use Rattle.header.specs.declared.Field.the-variants.{Value, Refused}
 use Rattle.header.specs.declared.Reading.{Reading}
@@ -57,11 +57,9 @@ writeHeader kid ctr out =
 
 -- ---- reading
 
--- A field's value in n bytes, where n is the least number that holds it and three bits would not.
+-- A field's value in n bytes, be they more than it takes.
 unfoldable pub readBytes : ℕ → List ℕ → Field
-readBytes n l =
-    let v = number n l in
-    pick (leb n (length l)) (pick (both (leb 8 v) (eqb (size v) n)) (Value v n) Refused) Refused
+readBytes n l = pick (leb n (length l)) (Value (number n l) n) Refused
 
 -- A field with flag x and three bits k: k itself, or the next k + 1 bytes.
 unfoldable pub readField : (x k : ℕ) (l : List ℕ) → Field
@@ -77,7 +75,20 @@ unfoldable pub readCounter : (b : ℕ) (l : List ℕ) (kid : Field) → Reading
 readCounter b l Refused = Invalid
 readCounter b l (Value kid a) = withCounter kid a (readField (b / 8 % 2) (b % 8) (drop a l))
 
--- The header at the front of l. Cause 10: it is cut short, or not in its shortest form.
+-- The header at the front of l. Cause 10: it is cut short.
 unfoldable pub readHeader : List ℕ → Reading
 readHeader [] = Invalid
 readHeader (b ∷ l) = readCounter b l (readField (b / 128) (b / 16 % 8) l)
+
+-- How many bytes of a field with flag x and three bits k follow the config byte.
+unfoldable pub fieldBytes : (x k : ℕ) → ℕ
+fieldBytes x k = pick (eqb x 0) 0 (k + 1)
+
+-- How many bytes a header has by its config byte b.
+unfoldable pub announced : ℕ → ℕ
+announced b = 1 + fieldBytes (b / 128) (b / 16 % 8) + fieldBytes (b / 8 % 2) (b % 8)
+
+-- Cut short: there are no bytes, or fewer than the first one announces.
+abbrev pub CutShort : List ℕ → Type 0
+CutShort [] = Unit {0}
+CutShort (b ∷ l) = length (b ∷ l) < announced b

@@ -86,14 +86,7 @@ fn read_field(x: u8, k: u8, rest: &[u8]) -> Field
     if rest.len() < n {
         return Field::Refused;
     }
-    let value = octets::read_be(rest, n);
-    if value < SMALL {
-        return Field::Refused;
-    }
-    if size_of(value) != n {
-        return Field::Refused;
-    }
-    Field::Value(value, n)
+    Field::Value(octets::read_be(rest, n), n)
 }
 
 // Reads the header at the front of bytes, whatever follows it.

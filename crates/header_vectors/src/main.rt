@@ -1,4 +1,4 @@
-// Runs the header vectors of standard input: each is written and read, or refused, and the program
+// Runs the header vectors of standard input: each is written and read, or read alone, or refused, and the program
 // prints for each group how many came out right and how many wrong. Each is also the front of a frame,
 // whose reader must show the KID, the counter, the header and the bytes after it.
 ghost use mathlib.Core.Path.{_≡_};
@@ -27,9 +27,17 @@ struct Bytes {
     len: usize,
 }
 
+// What is tried of a KID, a CTR and a header: the header in its shortest form or a longer one, or a frame that begins with it.
+enum Trial {
+    Shortest,
+    Longer,
+    Frame,
+}
+
 enum Line {
     Vector(bool),
     Edge(bool),
+    Longer(bool),
     Refused(bool),
     Comment,
 }
@@ -147,8 +155,15 @@ fn reads(bytes: &[u8], kid: u64, ctr: u64, n: usize) -> bool {
     }
 }
 
-// Whether kid and ctr are written as the first n of these bytes, and read from them, alone and with
-// the others after them.
+// Whether kid and ctr are read from the first n of these bytes, alone and with the others after them.
+fn reads_back(kid: u64, ctr: u64, bytes: &[u8], n: usize) -> bool {
+    if bytes.len() < n {
+        return false;
+    }
+    reads(&bytes[..n], kid, ctr, n) && reads(bytes, kid, ctr, n)
+}
+
+// Whether kid and ctr are written as the first n of these bytes, and read from them.
 fn agrees(kid: u64, ctr: u64, bytes: &[u8], n: usize) -> bool {
     if bytes.len() < n {
         return false;
@@ -157,8 +172,16 @@ fn agrees(kid: u64, ctr: u64, bytes: &[u8], n: usize) -> bool {
     let mut short = [PATTERN; 32];
     writes(&mut room, kid, ctr, &bytes[..n])
         && needs(&mut short, kid, ctr, n)
-        && reads(&bytes[..n], kid, ctr, n)
-        && reads(bytes, kid, ctr, n)
+        && reads_back(kid, ctr, bytes, n)
+}
+
+// Whether kid and ctr are read from the first n of these bytes, and written in fewer.
+fn longer(kid: u64, ctr: u64, bytes: &[u8], n: usize) -> bool {
+    let mut room = [PATTERN; 32];
+    let Written::Length(k) = header::write_header(Kid(kid), Ctr(ctr), &mut room) else {
+        return false;
+    };
+    k < n && reads_back(kid, ctr, bytes, n)
 }
 
 // Whether a frame is shown as kid, ctr, its first n bytes and those after them.
@@ -172,8 +195,8 @@ fn shows(frame: &[u8], kid: u64, ctr: u64, n: usize) -> bool {
         && octets::equal(frame::rest_of(frame), &frame[n..])
 }
 
-// Judges the KID, CTR and header that are spelt in a line, as a header or at the front of a frame.
-fn pair(line: &[u8], framed: bool) -> bool {
+// Judges the KID, CTR and header that are spelt in a line.
+fn pair(line: &[u8], trial: Trial) -> bool {
     let kid = number(line, 2);
     if line.len() <= kid.next {
         return false;
@@ -184,10 +207,10 @@ fn pair(line: &[u8], framed: bool) -> bool {
     }
     let e = encoded(line, ctr.next + 1);
     let bytes = e.bytes;
-    if framed {
-        shows(&bytes, kid.value, ctr.value, e.len)
-    } else {
-        agrees(kid.value, ctr.value, &bytes, e.len)
+    match trial {
+        Trial::Shortest => agrees(kid.value, ctr.value, &bytes, e.len),
+        Trial::Longer => longer(kid.value, ctr.value, &bytes, e.len),
+        Trial::Frame => shows(&bytes, kid.value, ctr.value, e.len),
     }
 }
 
@@ -220,7 +243,7 @@ fn framed(t: Tally, line: &[u8]) -> Tally {
     }
     let kind = line[0];
     match kind {
-        b'v' | b'e' => counted(t, pair(line, true)),
+        b'v' | b'e' | b'l' => counted(t, pair(line, Trial::Frame)),
         b'r' => counted(t, refused_frame(line)),
         _ => t,
     }
@@ -232,8 +255,9 @@ fn judge(line: &[u8]) -> Line {
     }
     let kind = line[0];
     match kind {
-        b'v' => Line::Vector(pair(line, false)),
-        b'e' => Line::Edge(pair(line, false)),
+        b'v' => Line::Vector(pair(line, Trial::Shortest)),
+        b'e' => Line::Edge(pair(line, Trial::Shortest)),
+        b'l' => Line::Longer(pair(line, Trial::Longer)),
         b'r' => {
             let e = encoded(line, 2);
             let bytes = e.bytes;
@@ -284,6 +308,7 @@ fn print(name: &[u8], t: Tally) {
 fn run(s: &[u8]) {
     let mut vectors = Tally { right: 0, wrong: 0 };
     let mut edges = Tally { right: 0, wrong: 0 };
+    let mut longer = Tally { right: 0, wrong: 0 };
     let mut refused = Tally { right: 0, wrong: 0 };
     let mut i = 0;
     while i < s.len() {
@@ -291,6 +316,7 @@ fn run(s: &[u8]) {
         match judge(&s[i..e]) {
             Line::Vector(ok) => vectors = counted(vectors, ok),
             Line::Edge(ok) => edges = counted(edges, ok),
+            Line::Longer(ok) => longer = counted(longer, ok),
             Line::Refused(ok) => refused = counted(refused, ok),
             Line::Comment => {}
         }
@@ -298,6 +324,7 @@ fn run(s: &[u8]) {
     }
     print(b"vectors: ", vectors);
     print(b"edges: ", edges);
+    print(b"longer: ", longer);
     print(b"refused: ", refused);
 }
 

@@ -39,7 +39,7 @@ use Rattle.store.proofs.KindLaws.{sends-held, fit-counter}
 use Rattle.store.proofs.Stores.{sound-stored, get-fit}
 use Rattle.store.proofs.Suites.{tag-named}
 use Rattle.store.proofs.Tables.{put-at, holds-some}
-use Rattle.seal_frame.specs.Frame.{frame}
+use Rattle.seal_frame.specs.Frame.{frameWith, frame}
 use Rattle.seal_frame.specs.Seal.{nextLength, sealCauses, causesOfSeal, nextFrame, sealAt, seal}
 
 -- ---- the header of the next frame
@@ -142,7 +142,7 @@ module _ (held : KeyRecord) (kid : ℕ) (metadata plaintext room : List ℕ) (c 
   hd = header kid (counterOf held)
 
   next-is : nextFrame sframe held kid metadata plaintext ≡ hd ++ body s held hd metadata plaintext
-  unfolding nextFrame frame encryptBy body
+  unfolding nextFrame frame frameWith encryptBy body
   next-is = rw found
 
   body-size : length (body s held hd metadata plaintext) ≡ length plaintext + Nt s

@@ -4,7 +4,7 @@ use mathlib.Core.List.{List, [], _∷_, _++_, append-assoc}
 use Prim.Native.Nat.{ℕ, zero, suc, _+_, _^_, _<_, _≤_}
 use native.Mathlib.Omega.{arith}
 use lib.ListN.{length, take, drop, length-append, take-append-drop}
-use lib.Seq.{take-length}
+use lib.Seq.{take-length, take-append-seam}
 use Rattle.octets.specs.Octets.{Octets, bytes}
 use Rattle.octets.proofs.Laws.{octets-append, bytes-octets}
 use Rattle.header.specs.Answers.{readNumber}
@@ -15,7 +15,7 @@ use Rattle.store.specs.Cipher.{Cipher}
 use Rattle.answers.proofs.Basics.{Two, yes′, no′, two}
 use Rattle.store.proofs.CipherLaws.{Laws, Usable}
 use Rattle.open_frame.specs.Open.{opening}
-use Rattle.seal_frame.specs.Frame.{frame}
+use Rattle.seal_frame.specs.Frame.{frameWith, frame}
 use Rattle.sframe.specs.Promises.{kidOf, ctrOf, Begins, isSender, senders, OpenedTo, keyFrom, saltFrom, nonceOf, Holds, Frame, Pair, Kept}
 use Rattle.sframe.specs.History.{Adding, Sealing, Event, added, sealed, other}
 use Rattle.sframe.proofs.Ledger.{Each, Fact, fact-reads, fact-kid, fact-ctr, Below, Proper}
@@ -93,7 +93,7 @@ module _ (cipher : Cipher) (laws : Laws cipher) (x : Sealing) (earlier : List Ev
   body = cipher .encrypt (f .add .suite) (keyFrom cipher (f .add)) (cipher .nonce (saltFrom cipher (f .add)) (f .ctr)) (header (f .kid) (f .ctr) ++ x .metadata) (x .plaintext)
 
   parts : x .frame ≡ header (f .kid) (f .ctr) ++ body
-  unfolding frame body
+  unfolding frame frameWith body
   parts = f .frame-is
 
   frame-octets : Octets (x .frame)
@@ -116,23 +116,32 @@ module _ (cipher : Cipher) (laws : Laws cipher) (x : Sealing) (earlier : List Ev
       f .frame-is
       ∙ (λ i. frame cipher (f .add .suite) (keyFrom cipher (f .add)) (saltFrom cipher (f .add)) (sym (fact-kid cipher x earlier f) i) (sym (fact-ctr cipher x earlier f) i) (x .metadata) (x .plaintext))
 
+  -- the header that is received of it is the one that was written
+  received : take (length (header (f .kid) (f .ctr))) (x .frame) ≡ header (f .kid) (f .ctr)
+  received = ap (take (length (header (f .kid) (f .ctr)))) parts ∙ take-append-seam (header (f .kid) (f .ctr)) body
+
+  behind : x .frame ≡ frameWith cipher (f .add .suite) (keyFrom cipher (f .add)) (saltFrom cipher (f .add)) (take (length (header (f .kid) (f .ctr))) (x .frame)) (ctrOf x) (x .metadata) (x .plaintext)
+  unfolding frame
+  behind =
+      f .frame-is
+      ∙ (λ i. frameWith cipher (f .add .suite) (keyFrom cipher (f .add)) (saltFrom cipher (f .add)) (sym received i) (sym (fact-ctr cipher x earlier f) i) (x .metadata) (x .plaintext))
+
   pub frame-opens : (s room : List ℕ) → Holds s (record { suite = f .add .suite; kid = kidOf x; salt = saltFrom cipher (f .add); key = keyFrom cipher (f .add) })
       → length (x .plaintext) ≤ length room → OpenedTo (x .plaintext) (opening cipher s (x .metadata) (x .frame) room)
   frame-opens s room h r =
       let n = body-length in
-      opens-exactly cipher laws s (x .metadata) (x .frame) room (record { suite = f .add .suite; kid = kidOf x; salt = saltFrom cipher (f .add); key = keyFrom cipher (f .add) }) (ctrOf x)
+      opens-exactly cipher laws s (x .metadata) (x .frame) room (record { suite = f .add .suite; kid = kidOf x; salt = saltFrom cipher (f .add); key = keyFrom cipher (f .add) }) (ctrOf x) (length (header (f .kid) (f .ctr)))
       (record {
         held = h;
         metadata-octets = f .metadata-octets;
         bytes-octets = frame-octets;
-        header-length = length (header (f .kid) (f .ctr));
         header-is =
             fact-reads cipher x earlier f
             ∙ (λ i. Header (record { 0 = sym (fact-kid cipher x earlier f) i }) (record { 0 = sym (fact-ctr cipher x earlier f) i }) (length (header (f .kid) (f .ctr))));
         plaintext-most = omega (arith, f .plaintext-most);
         metadata-most = f .metadata-most;
         room-enough = omega arith;
-      }) .yields (record { plaintext = x .plaintext; octets = f .plaintext-octets; is-frame = whole })
+      }) .yields (record { plaintext = x .plaintext; octets = f .plaintext-octets; is-frame = behind })
 
   pub frame-holds : Frame cipher x earlier
   frame-holds = record {

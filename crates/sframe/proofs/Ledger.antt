@@ -27,7 +27,7 @@ use Rattle.store.proofs.Stores.{Stored, Change}
 use Rattle.answers.specs.Limits.{maxPlaintext, maxMetadata}
 use Rattle.seal_frame.specs.Seal.{seal}
 use Rattle.open_frame.specs.Open.{openAt, opening}
-use Rattle.seal_frame.specs.Frame.{frame}
+use Rattle.seal_frame.specs.Frame.{frameWith, frame}
 use Rattle.sframe.specs.Promises.{kidOf, ctrOf, senders, keyFrom, saltFrom}
 use Rattle.sframe.specs.History.{Call, Add, Remove, Seal, Open, Typed, AllTyped, Adding, Sealing, Event, added, sealed, other, event, History, outcome, step, run, start}
 use Rattle.store.specs.Suites.{isSuite}
@@ -69,7 +69,7 @@ pub record Fact (cipher : Cipher) (x : Sealing) (earlier : List Event) : Type 0 
 
 pub frame-reads : (cipher : Cipher) (suite : ℕ) (key salt : List ℕ) (kid ctr : ℕ) (metadata plaintext : List ℕ) → kid < 2 ^ 64 → ctr < ceiling
     → readHeader (frame cipher suite key salt kid ctr metadata plaintext) ≡ Header (record { 0 = kid }) (record { 0 = ctr }) (length (header kid ctr))
-unfolding frame
+unfolding frame frameWith
 frame-reads cipher suite key salt kid ctr metadata plaintext h c = read-header kid ctr _ h (omega arith)
 
 module _ (cipher : Cipher) (x : Sealing) (earlier : List Event) (f : Fact cipher x earlier) where

@@ -1,4 +1,5 @@
--- Opening succeeds exactly when the frame is the RFC's encryption of some plaintext, and yields that plaintext. Assumes nothing.
+-- Opening succeeds exactly when the frame is the RFC's encryption of some plaintext with the header that was received, and yields that
+-- plaintext. Assumes nothing.
 use mathlib.Core.Path.{_≡_, refl, sym, _∙_, ap, ap₂}
 use mathlib.Core.Bool.{Bool, true, false, not, false≢true}
 use mathlib.Core.List.{List, [], _∷_, _++_}
@@ -6,15 +7,15 @@ use Prim.Native.Nat.{ℕ, _+_, _-_, _≤_}
 use native.Mathlib.Omega.{arith}
 use lib.Dec.{leb, ltb, eqb}
 use lib.ListN.{length, take, drop, length-drop, take-append-drop}
-use lib.Seq.{take-append-seam, drop-at}
+use lib.Seq.{take-append-seam, drop-at, length-take-le}
 use borrow.Author.Tests.{le-leb, le-ltb, ltb-false, eq-eqb}
 use Rattle.octets.specs.Octets.{Octets}
 use Rattle.octets.proofs.Laws.{octets-append, octets-take, octets-drop}
 use Rattle.header.specs.Answers.{headerInvalid, roomShort, readNumber, readKid, readLength}
-use Rattle.header.specs.Header.{header, readHeader}
+use Rattle.header.specs.Header.{readHeader}
 use Rattle.header.specs.declared.Reading.{Reading}
 use Rattle.header.specs.declared.Reading.the-variants.{Header}
-use Rattle.header.proofs.Laws.{HeaderRead, header-read}
+use Rattle.header.proofs.Laws.{header-read}
 use Rattle.answers.specs.Answers.{storeInvalid, kidMissing, roleRefused, inputTooLong, frameShort, tagDiffers, _if_, Outcome, first}
 use Rattle.store.specs.Cipher.{Cipher, Decrypted, plain, differs}
 use Rattle.store.specs.Record.{ReceivingKey, KeyRecord, receiving, isEmpty, isReceiving, suiteOf}
@@ -27,7 +28,7 @@ use Rattle.store.proofs.Stores.{Stored, sound-stored, stored-sound, stored-reco
 use Rattle.store.proofs.Tables.{get-at}
 use Rattle.answers.specs.Limits.{maxPlaintext, maxMetadata, tooLong}
 use Rattle.open_frame.specs.Open.{plainOf, isDiffers, decrypted, plainLength, openCauses, causesOfOpen, openAt, opening}
-use Rattle.seal_frame.specs.Frame.{frame}
+use Rattle.seal_frame.specs.Frame.{frameWith}
 use Rattle.store.specs.Suites.{tagSize}
 use Rattle.sframe.specs.Promises.{Holds, Encryption, Openable, OpensExactly}
 
@@ -64,8 +65,8 @@ module _ (cipher : Cipher) (laws : Laws cipher) (s : List ℕ) (rs : List KeyRec
     fit : Fit (receiving r)
     fit = rw found at (get-fit kid rs (t .table .fit))
 
-    shape : HeaderRead bytes kid ctr n
-    shape = header-read bytes (record { 0 = kid }) (record { 0 = ctr }) n ob reads
+    inside : n ≤ length bytes
+    inside = header-read bytes (record { 0 = kid }) (record { 0 = ctr }) n ob reads .inside
 
     usable : Usable (r .suite) (r .key) (cipher .nonce (r .salt) ctr) (take n bytes ++ metadata)
     usable = record {
@@ -77,38 +78,31 @@ module _ (cipher : Cipher) (laws : Laws cipher) (s : List ℕ) (rs : List KeyRec
       aad-octets = octets-append (take n bytes) metadata (octets-take n bytes ob) om;
     }
 
-    aad-is : take n bytes ++ metadata ≡ header kid ctr ++ metadata
-    aad-is = ap (λ (l : List ℕ). l ++ metadata) (shape .front)
-
     -- bytes that decrypt are the frame of what they decrypt to
     frame-of : (p : List ℕ) → tagSize (r .suite) ≤ length (drop n bytes)
         → cipher .decrypt (r .suite) (r .key) (cipher .nonce (r .salt) ctr) (take n bytes ++ metadata) (drop n bytes) ≡ plain p
-        → Octets p × (bytes ≡ frame cipher (r .suite) (r .key) (r .salt) kid ctr metadata p)
-    unfolding frame
+        → Octets p × (bytes ≡ frameWith cipher (r .suite) (r .key) (r .salt) (take n bytes) ctr metadata p)
+    unfolding frameWith
     frame-of p h e =
-        let d = laws .decrypt-plain (r .suite) (r .key) (cipher .nonce (r .salt) ctr) (take n bytes ++ metadata) (drop n bytes) p usable (octets-drop n bytes ob) h e in (
-          d .0,
-          sym (take-append-drop n bytes) ∙ ap₂ (λ (a b : List ℕ). a ++ b) (shape .front)
-              (d .1 ∙ ap (λ (l : List ℕ). cipher .encrypt (r .suite) (r .key) (cipher .nonce (r .salt) ctr) l p) aad-is),
-        )
+        let d = laws .decrypt-plain (r .suite) (r .key) (cipher .nonce (r .salt) ctr) (take n bytes ++ metadata) (drop n bytes) p usable (octets-drop n bytes ob) h e in
+        (d .0, sym (take-append-drop n bytes) ∙ ap (λ (b : List ℕ). take n bytes ++ b) (d .1))
 
     -- and the frame of a plaintext decrypts to it
-    rest-of : (p : List ℕ) → bytes ≡ frame cipher (r .suite) (r .key) (r .salt) kid ctr metadata p
+    rest-of : (p : List ℕ) → bytes ≡ frameWith cipher (r .suite) (r .key) (r .salt) (take n bytes) ctr metadata p
         → drop n bytes ≡ cipher .encrypt (r .suite) (r .key) (cipher .nonce (r .salt) ctr) (take n bytes ++ metadata) p
-    unfolding frame
+    unfolding frameWith
     rest-of p e =
         ap (drop n) e
-        ∙ drop-at (header kid ctr) (cipher .encrypt (r .suite) (r .key) (cipher .nonce (r .salt) ctr) (header kid ctr ++ metadata) p) n (sym (shape .length-is))
-        ∙ ap (λ (l : List ℕ). cipher .encrypt (r .suite) (r .key) (cipher .nonce (r .salt) ctr) l p) (sym aad-is)
+        ∙ drop-at (take n bytes) (cipher .encrypt (r .suite) (r .key) (cipher .nonce (r .salt) ctr) (take n bytes ++ metadata) p) n (length-take-le n bytes inside)
 
-    decrypts : (p : List ℕ) → Octets p → bytes ≡ frame cipher (r .suite) (r .key) (r .salt) kid ctr metadata p
+    decrypts : (p : List ℕ) → Octets p → bytes ≡ frameWith cipher (r .suite) (r .key) (r .salt) (take n bytes) ctr metadata p
         → cipher .decrypt (r .suite) (r .key) (cipher .nonce (r .salt) ctr) (take n bytes ++ metadata) (drop n bytes) ≡ plain p
     decrypts p o e =
         ap (cipher .decrypt (r .suite) (r .key) (cipher .nonce (r .salt) ctr) (take n bytes ++ metadata)) (rest-of p e)
         ∙ laws .decrypt-encrypt (r .suite) (r .key) (cipher .nonce (r .salt) ctr) (take n bytes ++ metadata) p usable o
 
     -- what it takes to be so: it has a tag, and as many bytes before it as the plaintext
-    lengths : (p : List ℕ) → Octets p → bytes ≡ frame cipher (r .suite) (r .key) (r .salt) kid ctr metadata p → length bytes - n ≡ length p + tagSize (r .suite)
+    lengths : (p : List ℕ) → Octets p → bytes ≡ frameWith cipher (r .suite) (r .key) (r .salt) (take n bytes) ctr metadata p → length bytes - n ≡ length p + tagSize (r .suite)
     lengths p o e =
         sym (length-drop n bytes) ∙ ap length (rest-of p e) ∙ laws .encrypt-length (r .suite) (r .key) (cipher .nonce (r .salt) ctr) (take n bytes ++ metadata) p usable o
 
@@ -166,9 +160,9 @@ holds-get s r h =
     get-at (r .kid) (records s) (h .place) (t .table .kids-apart) (rw (h .holds-it) (holds-receiving r)) ∙ h .holds-it
 
 module _ (cipher : Cipher) (laws : Laws cipher) where
-  -- opening succeeds exactly when the frame is the RFC's encryption of some plaintext under the held key, the frame's own counter and the metadata given, and yields it
-  pub opens-exactly : (s metadata bytes room : List ℕ) (r : ReceivingKey) (ctr : ℕ) → Openable cipher s metadata bytes room r ctr → OpensExactly cipher s metadata bytes room r ctr
-  opens-exactly s metadata bytes room r ctr g = record {
+  -- opening succeeds exactly when the frame is the RFC's encryption of some plaintext under the held key, with the frame's own counter and header and the metadata given, and yields it
+  pub opens-exactly : (s metadata bytes room : List ℕ) (r : ReceivingKey) (ctr n : ℕ) → Openable cipher s metadata bytes room r ctr n → OpensExactly cipher s metadata bytes room r ctr n
+  opens-exactly s metadata bytes room r ctr n g = record {
     exactly = (there, λ e. ap (λ (o : Outcome). o .number) (outcome-is e));
     yields = λ e. record {
       answers = ap (λ (o : Outcome). o .number) (outcome-is e);
@@ -178,16 +172,13 @@ module _ (cipher : Cipher) (laws : Laws cipher) where
     beyond = λ e. ap (λ (o : Outcome). o .room) (outcome-is e);
   }
     where
-      n : ℕ
-      n = g .header-length
-
       t : Stored s (records s)
       t = sound-stored s (g .held .octets) (g .held .is-sound)
 
       found : get (r .kid) (records s) ≡ receiving r
       found = holds-get s r (g .held)
 
-      outcome-is : (e : Encryption cipher r ctr metadata bytes)
+      outcome-is : (e : Encryption cipher r ctr n metadata bytes)
           → opening cipher s metadata bytes room ≡ record { number = 0; written = length (e .plaintext); store = s; room = e .plaintext ++ drop (length (e .plaintext)) room }
       outcome-is e =
           let l = lengths cipher laws s (records s) t metadata bytes room (g .metadata-octets) (g .bytes-octets) (r .kid) ctr n (g .header-is) r found (e .plaintext) (e .octets) (e .is-frame) in
@@ -195,7 +186,7 @@ module _ (cipher : Cipher) (laws : Laws cipher) where
           (g .plaintext-most) (g .metadata-most) (g .room-enough) (e .plaintext) (omega arith)
           (decrypts cipher laws s (records s) t metadata bytes room (g .metadata-octets) (g .bytes-octets) (r .kid) ctr n (g .header-is) r found (e .plaintext) (e .octets) (e .is-frame))
 
-      there : opening cipher s metadata bytes room .number ≡ 0 → Encryption cipher r ctr metadata bytes
+      there : opening cipher s metadata bytes room .number ≡ 0 → Encryption cipher r ctr n metadata bytes
       there e =
           let p = passed cipher laws s (records s) t metadata bytes room (g .metadata-octets) (g .bytes-octets) (r .kid) ctr n (g .header-is) r found
           (g .plaintext-most) (g .metadata-most) (g .room-enough) e

@@ -39,7 +39,7 @@ unfolding start
 never-again s made calls typed = fresh-never (run sframe calls (start s) .log) (run-fresh sframe suites-laws calls (start s) typed (start-keeps sframe suites-laws s made) tt)
 
 -- Opening succeeds exactly when the frame is the RFC's encryption of some plaintext, and yields that plaintext.
-pub opening-exact : (s metadata bytes room : List ℕ) (r : ReceivingKey) (ctr : ℕ) → Openable sframe s metadata bytes room r ctr → OpensExactly sframe s metadata bytes room r ctr
+pub opening-exact : (s metadata bytes room : List ℕ) (r : ReceivingKey) (ctr n : ℕ) → Openable sframe s metadata bytes room r ctr n → OpensExactly sframe s metadata bytes room r ctr n
 opening-exact = opens-exactly sframe suites-laws
 
 -- Sealing and opening depend on other records only through soundness, and change none of them.

@@ -18,7 +18,7 @@ use Rattle.store.specs.Store.{records, sound}
 use Rattle.store.specs.Table.{holds}
 use Rattle.answers.specs.Limits.{maxPlaintext, maxMetadata}
 use Rattle.open_frame.specs.Open.{opening}
-use Rattle.seal_frame.specs.Frame.{frame}
+use Rattle.seal_frame.specs.Frame.{frameWith, frame}
 use Rattle.store.specs.Suites.{tagSize}
 use Rattle.sframe.specs.History.{Call, roomOf, Adding, Sealing, Event, added, sealed, other}
 use Rattle.store.specs.declared.Role.{Role}
@@ -79,28 +79,28 @@ module _ (cipher : Cipher) where
 
   -- ---- opening
 
-  -- The bytes are the RFC's encryption of some plaintext under a key held for receiving, with that counter and that metadata.
-  pub record Encryption (r : ReceivingKey) (ctr : ℕ) (metadata bytes : List ℕ) : Type 0 where
+  -- The bytes are the RFC's encryption of some plaintext under a key held for receiving, with that counter and that metadata and with
+  -- the header that was received, their first n bytes.
+  pub record Encryption (r : ReceivingKey) (ctr n : ℕ) (metadata bytes : List ℕ) : Type 0 where
     pub plaintext : List ℕ
     pub octets : Octets plaintext
-    pub is-frame : bytes ≡ frame cipher (r .suite) (r .key) (r .salt) (r .kid) ctr metadata plaintext
+    pub is-frame : bytes ≡ frameWith cipher (r .suite) (r .key) (r .salt) (take n bytes) ctr metadata plaintext
 
   -- Where the store is sound and holds the frame's KID for receiving, and sizes and room suffice ..
-  pub record Openable (s metadata bytes room : List ℕ) (r : ReceivingKey) (ctr : ℕ) : Type 0 where
+  pub record Openable (s metadata bytes room : List ℕ) (r : ReceivingKey) (ctr n : ℕ) : Type 0 where
     pub held : Holds s r
     pub metadata-octets : Octets metadata
     pub bytes-octets : Octets bytes
-    pub header-length : ℕ
-    pub header-is : readHeader bytes ≡ Header (record { 0 = r .kid }) (record { 0 = ctr }) header-length
-    pub plaintext-most : length bytes - header-length - tagSize (r .suite) ≤ maxPlaintext
+    pub header-is : readHeader bytes ≡ Header (record { 0 = r .kid }) (record { 0 = ctr }) n
+    pub plaintext-most : length bytes - n - tagSize (r .suite) ≤ maxPlaintext
     pub metadata-most : length metadata ≤ maxMetadata
-    pub room-enough : length bytes - header-length - tagSize (r .suite) ≤ length room
+    pub room-enough : length bytes - n - tagSize (r .suite) ≤ length room
 
   -- .. opening succeeds exactly when the frame is such an encryption, and yields that plaintext; the room beyond it stays.
-  pub record OpensExactly (s metadata bytes room : List ℕ) (r : ReceivingKey) (ctr : ℕ) : Type 0 where
-    pub exactly : (opening cipher s metadata bytes room .number ≡ done) ↔ Encryption r ctr metadata bytes
-    pub yields : (e : Encryption r ctr metadata bytes) → OpenedTo (e .plaintext) (opening cipher s metadata bytes room)
-    pub beyond : (e : Encryption r ctr metadata bytes) → opening cipher s metadata bytes room .room ≡ e .plaintext ++ drop (length (e .plaintext)) room
+  pub record OpensExactly (s metadata bytes room : List ℕ) (r : ReceivingKey) (ctr n : ℕ) : Type 0 where
+    pub exactly : (opening cipher s metadata bytes room .number ≡ done) ↔ Encryption r ctr n metadata bytes
+    pub yields : (e : Encryption r ctr n metadata bytes) → OpenedTo (e .plaintext) (opening cipher s metadata bytes room)
+    pub beyond : (e : Encryption r ctr n metadata bytes) → opening cipher s metadata bytes room .room ≡ e .plaintext ++ drop (length (e .plaintext)) room
 
   -- ---- every list of calls
 

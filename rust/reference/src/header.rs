@@ -24,8 +24,8 @@ pub fn write_header(kid: u64, ctr: u64) -> Vec<u8> {
 
 /// The KID, the CTR and the length of the header that `bytes` begin with.
 ///
-/// `None` where the header is cut short, or writes a number in more bytes than
-/// it needs.
+/// `None` where the header is cut short. A number may stand in more bytes than
+/// it needs: the fewest bind the writer alone.
 pub fn read_header(bytes: &[u8]) -> Option<(u64, u64, usize)> {
     let (&config, rest) = bytes.split_first()?;
     let (kid, rest) = read_number(config >> 4, rest)?;
@@ -53,6 +53,5 @@ fn read_number(half: u8, bytes: &[u8]) -> Option<(u64, &[u8])> {
     let length = usize::from(half & 0b111) + 1;
     let (digits, rest) = bytes.split_at_checked(length)?;
     let number = digits.iter().fold(0, |n, &byte| n << 8 | u64::from(byte));
-    let shortest = number >= 8 && digits[0] != 0;
-    shortest.then_some((number, rest))
+    Some((number, rest))
 }

@@ -21,7 +21,7 @@ pub enum Refusal {
     CounterSpent = 8,
     /// The plaintext or the metadata is too long.
     TooLong = 9,
-    /// The header is cut short or not the shortest.
+    /// The header is cut short.
     BadHeader = 10,
     /// Fewer bytes than a tag follow the header.
     NoTag = 11,

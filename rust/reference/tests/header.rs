@@ -30,11 +30,35 @@ fn numbers_at_the_edges() {
 }
 
 #[test]
-fn cut_short_or_not_shortest_is_refused() {
+fn cut_short_is_refused() {
     for bytes in [
-        "", "08", "80", "8808", "9001", "0805", "8007", "9000ff", "0900ff", "8f0800",
+        "",
+        "08",
+        "80",
+        "8808",
+        "9001",
+        "9000",
+        "8f0800",
+        "8900ff",
+        "f000000000000000",
     ] {
         assert_eq!(read_header(&hex(bytes)), None, "{bytes}");
+    }
+}
+
+#[test]
+fn longer_forms_are_read() {
+    for (kid, ctr, header) in [
+        (0, 5, "0805"),
+        (7, 0, "8007"),
+        (255, 0, "9000ff"),
+        (0, 255, "0900ff"),
+        (1, 0, "1f0000000000000000"),
+        (0, 0, "ff00000000000000000000000000000000"),
+    ] {
+        let length = header.len() / 2;
+        assert_eq!(read_header(&hex(header)), Some((kid, ctr, length)));
+        assert_eq!(read_header(&hex(header)[..length - 1]), None, "{header}");
     }
 }
 

@@ -336,7 +336,7 @@ fn open_refuses_in_order() {
 
     refused(&store[..0], StoreNotSound, call(vec![], 1_025), 0);
     refused(&store, BadHeader, call(vec![], 1_025), 0);
-    refused(&store, BadHeader, call(vec![0x08, 0x05], 1_025), 0);
+    refused(&store, BadHeader, call(vec![0x09, 0x05], 1_025), 0);
     refused(&store, KidUnknown, call(vec![0x40], 1_025), 0);
     refused(&store, WrongRole, call(vec![0x10], 1_025), 0);
     refused(&store, WrongRole, call(vec![0x30], 1_025), 0);

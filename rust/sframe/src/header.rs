@@ -33,8 +33,8 @@ pub struct Header {
     pub length: usize,
 }
 
-/// Writes the header of `kid` and `ctr` at the front of `out` and answers its
-/// length. The bytes behind it stay as they are.
+/// Writes the header of `kid` and `ctr`, in its shortest form, at the front of
+/// `out` and answers its length. The bytes behind it stay as they are.
 ///
 /// Refuses with [`Refusal::RoomShort`] where `out` is shorter than the header;
 /// [`MAX_HEADER`] bytes are always enough.
@@ -56,8 +56,8 @@ pub fn write_header(kid: Kid, ctr: Ctr, out: &mut [u8]) -> Result<usize, Refusal
 
 /// Reads the header that `bytes` begin with, whatever follows it.
 ///
-/// Refuses with [`Refusal::BadHeader`] where the header is cut short, or writes
-/// a number in more bytes than it needs.
+/// A number may stand in more bytes than it needs; [`write_header`] takes the
+/// fewest. Refuses with [`Refusal::BadHeader`] where the header is cut short.
 ///
 /// ```
 /// use sframe::{read_header, Ctr, Kid, Refusal};
@@ -65,8 +65,11 @@ pub fn write_header(kid: Kid, ctr: Ctr, out: &mut [u8]) -> Result<usize, Refusal
 /// let header = read_header(&[0x80, 200, 0xee])?;
 /// assert_eq!((header.kid, header.ctr, header.length), (Kid(200), Ctr(0), 2));
 ///
+/// let longer = read_header(&[0x90, 0, 200])?;
+/// assert_eq!((longer.kid, longer.ctr, longer.length), (Kid(200), Ctr(0), 3));
+///
 /// assert_eq!(read_header(&[0x80]), Err(Refusal::BadHeader));
-/// assert_eq!(read_header(&[0x80, 7]), Err(Refusal::BadHeader));
+/// assert_eq!(read_header(&[0x90, 0]), Err(Refusal::BadHeader));
 /// # Ok::<(), sframe::Refusal>(())
 /// ```
 pub fn read_header(bytes: &[u8]) -> Result<Header, Refusal> {

@@ -13,7 +13,7 @@ use std::fmt;
 /// assert_eq!(refusal, Refusal::BadHeader);
 /// assert_eq!(refusal.number(), 10);
 /// assert_eq!(Refusal::from_number(10), Some(refusal));
-/// assert_eq!(refusal.to_string(), "the header is cut short or not in its shortest form");
+/// assert_eq!(refusal.to_string(), "the header is cut short");
 /// ```
 #[derive(Clone, Copy, Debug, PartialEq, Eq, Hash, PartialOrd, Ord)]
 #[non_exhaustive]
@@ -39,7 +39,7 @@ pub enum Refusal {
     CounterSpent = 8,
     /// The plaintext exceeds 32,768 bytes, or the metadata 1,024.
     TooLong = 9,
-    /// The header is cut short, or writes a number in more bytes than it needs.
+    /// The header is cut short.
     BadHeader = 10,
     /// Behind the header the frame is shorter than a tag.
     FrameShort = 11,
@@ -108,7 +108,7 @@ impl fmt::Display for Refusal {
             WrongRole => "the role of this key number does not allow the call",
             CounterSpent => "the key has no counter left",
             TooLong => "the plaintext has more than 32,768 bytes or the metadata more than 1,024",
-            BadHeader => "the header is cut short or not in its shortest form",
+            BadHeader => "the header is cut short",
             FrameShort => "the frame is too short to hold a tag",
             RoomShort => "the room is too short for the result",
             TagDiffers => "the tag does not match",

@@ -55,3 +55,31 @@ pub fn compare_read_header(bytes: &[u8]) -> Read {
     assert_eq!(read, expected, "{bytes:02x?}");
     read
 }
+
+/// Every header of `kid` and `ctr`, the shortest first: each number in its
+/// three bits, if it fits them, and in each count of bytes that holds it.
+pub fn forms(kid: u64, ctr: u64) -> Vec<Vec<u8>> {
+    let mut headers = vec![];
+    for (k, kid) in fields(kid) {
+        for (c, ctr) in fields(ctr) {
+            headers.push([&[k << 4 | c], &kid[..], &ctr].concat());
+        }
+    }
+    headers
+}
+
+/// The forms of a number: its half of the first byte, and the bytes behind.
+fn fields(number: u64) -> Vec<(u8, Vec<u8>)> {
+    let mut fields = vec![];
+    if number < 8 {
+        fields.push((number as u8, vec![]));
+    }
+    for count in 1..=8 {
+        let all = number.to_be_bytes();
+        let (unused, bytes) = all.split_at(8 - count);
+        if unused.iter().all(|&byte| byte == 0) {
+            fields.push((0b1000 | (count - 1) as u8, bytes.to_vec()));
+        }
+    }
+    fields
+}

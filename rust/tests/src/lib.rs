@@ -9,9 +9,9 @@ mod lent;
 mod stores;
 
 pub use call::{compare, Call, Outcome};
-pub use header::{compare_read_header, compare_write_header};
+pub use header::{compare_read_header, compare_write_header, forms};
 pub use stores::{
-    after, done, frame, made, retire, set_counter, with_key, Key, ANY_KEY, COUNTER_AT,
+    after, done, frame, frame_with, made, retire, set_counter, with_key, Key, ANY_KEY, COUNTER_AT,
 };
 
 /// The numbers of the refusals.

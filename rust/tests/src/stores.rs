@@ -87,10 +87,20 @@ pub fn set_counter(store: &mut [u8], place: usize, counter: u64) {
 /// The frame that RFC 9605 defines, of any size, put together from the
 /// reference's parts without a store.
 pub fn frame(key: &Key, ctr: u64, metadata: &[u8], plaintext: &[u8]) -> Vec<u8> {
+    frame_with(&write_header(key.kid, ctr), key, ctr, metadata, plaintext)
+}
+
+/// The same with `header`, in whatever form, as its header.
+pub fn frame_with(
+    header: &[u8],
+    key: &Key,
+    ctr: u64,
+    metadata: &[u8],
+    plaintext: &[u8],
+) -> Vec<u8> {
     let (derived, salt) = key.suite.derive_key_salt(key.kid, &key.base_key);
-    let header = write_header(key.kid, ctr);
-    let aad = [&header, metadata].concat();
+    let aad = [header, metadata].concat();
     let mut data = plaintext.to_vec();
     let tag = Aead::new(key.suite, &derived).encrypt(&nonce(&salt, ctr), &aad, &mut data);
-    [header, data, tag].concat()
+    [header, &data, &tag].concat()
 }

@@ -2,8 +2,8 @@
 //! room as it was, which each comparison checks.
 
 use comparison::number::*;
-use comparison::{compare, done, frame, made, with_key, Call, Key};
-use reference::header::read_header;
+use comparison::{compare, done, forms, frame, frame_with, made, with_key, Call, Key};
+use reference::header::{read_header, write_header};
 use reference::suites::SUITES;
 use sframe::Role;
 use testkit::Generator;
@@ -54,6 +54,49 @@ impl Case {
 fn as_sealed() {
     for case in cases() {
         assert_eq!(case.open(&case.frame, METADATA), DONE);
+    }
+}
+
+/// A sender that writes every counter in eight bytes. The associated data is the
+/// header as received: behind our shortest one the same body is refused.
+#[test]
+fn counter_in_eight_bytes() {
+    for suite in SUITES {
+        let key = Key::any(suite, 200);
+        let store = with_key(&made(1), Role::Receiving, &key);
+        for ctr in [0, 5, 255, 1 << 40, u64::MAX >> 8] {
+            let header = [&[0x8f, 200], &ctr.to_be_bytes()[..]].concat();
+            let frame = frame_with(&header, &key, ctr, METADATA, PLAINTEXT);
+            assert_eq!(done(&store, opening(&frame)).result(), PLAINTEXT);
+            let ours = [write_header(200, ctr), frame[header.len()..].to_vec()].concat();
+            assert_eq!(compare(&store, opening(&ours)).number, TAG_DIFFERS);
+        }
+    }
+}
+
+/// Every form of a header, each with the frame that it is the header of. The
+/// body of one is refused behind the next.
+#[test]
+fn every_form_of_a_header() {
+    for (kid, ctr) in [(0, 0), (7, 5), (8, 1), (200, 0x0123_4567), (1 << 40, 7)] {
+        let key = Key::any(SUITES[3], kid);
+        let store = with_key(&made(1), Role::Receiving, &key);
+        let forms = forms(kid, ctr);
+        for (form, next) in forms.iter().zip(forms.iter().cycle().skip(1)) {
+            let frame = frame_with(form, &key, ctr, METADATA, PLAINTEXT);
+            assert_eq!(done(&store, opening(&frame)).result(), PLAINTEXT);
+            let other = [next, &frame[form.len()..]].concat();
+            assert_eq!(compare(&store, opening(&other)).number, TAG_DIFFERS);
+        }
+    }
+}
+
+/// A call to open with room for any plaintext.
+fn opening(frame: &[u8]) -> Call<'_> {
+    Call::Open {
+        frame,
+        metadata: METADATA,
+        room: frame.len(),
     }
 }
 

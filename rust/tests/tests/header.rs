@@ -1,7 +1,7 @@
 //! Headers: written and read by the sealing layer and by the reference.
 
-use comparison::number::{BAD_HEADER, ROOM_SHORT};
-use comparison::{compare_read_header, compare_write_header};
+use comparison::number::{BAD_HEADER, DONE, ROOM_SHORT};
+use comparison::{compare_read_header, compare_write_header, forms};
 use reference::header::{write_header, MAX_LENGTH};
 use sframe::raw::{Read, Written};
 use testkit::{header_vectors, hex, Generator};
@@ -24,8 +24,16 @@ fn check(kid: u64, ctr: u64, header: &[u8]) {
         assert_eq!(compare_write_header(kid, ctr, room), refused);
     }
 
+    check_read(kid, ctr, header);
+}
+
+/// `header` is what both read as `kid` and `ctr`, with anything behind it, and
+/// no front of it is read.
+#[track_caller]
+fn check_read(kid: u64, ctr: u64, header: &[u8]) {
+    let length = header.len();
     let read = Read {
-        number: 0,
+        number: DONE,
         kid,
         ctr,
         length,
@@ -74,8 +82,32 @@ fn stated_cases() {
     ] {
         check(kid, ctr, &hex(header));
     }
-    for bytes in ["", "08", "0805", "8007", "9000ff"] {
+    for bytes in ["", "08"] {
         check_refused(&hex(bytes));
+    }
+    for (kid, ctr, header) in [
+        (0, 5, "0805"),
+        (7, 0, "8007"),
+        (0xff, 0, "9000ff"),
+        (0, 0, "ff00000000000000000000000000000000"),
+    ] {
+        check_read(kid, ctr, &hex(header));
+    }
+}
+
+/// Every form of both numbers reads as they are, and the shortest is written.
+#[test]
+fn every_form() {
+    let numbers = [0, 5, 7, 8, 0xff, 0x100, 0x0123_4567, 1 << 40, u64::MAX];
+    for kid in numbers {
+        for ctr in numbers {
+            let forms = forms(kid, ctr);
+            assert!(forms.iter().all(|form| form.len() >= forms[0].len()));
+            check(kid, ctr, &forms[0]);
+            for form in &forms {
+                check_read(kid, ctr, form);
+            }
+        }
     }
 }
 
@@ -95,6 +127,7 @@ fn edges_between_lengths() {
 }
 
 /// Every first byte, with every length of what follows, in several fillings.
+/// What is refused is what has fewer bytes than the first one announces.
 #[test]
 fn every_first_byte() {
     let mut generator = Generator::new(0x6865_6164_6572_0001);
@@ -109,9 +142,24 @@ fn every_first_byte() {
         for filling in &fillings {
             let bytes = [&[first][..], filling].concat();
             for length in 1..=bytes.len() {
-                compare_read_header(&bytes[..length]);
+                let read = compare_read_header(&bytes[..length]);
+                let announced = 1 + announced(first >> 4) + announced(first & 0b1111);
+                let (number, header) = if length < announced {
+                    (BAD_HEADER, 0)
+                } else {
+                    (DONE, announced)
+                };
+                assert_eq!((read.number, read.length), (number, header));
             }
         }
+    }
+}
+
+/// How many bytes of a number follow a first byte with this half.
+fn announced(half: u8) -> usize {
+    match half {
+        0..8 => 0,
+        _ => usize::from(half - 7),
     }
 }
 
@@ -138,9 +186,9 @@ fn generated_headers() {
         let behind = generator.up_to(3);
         bytes.extend(generator.bytes(behind));
         let at = generator.up_to(bytes.len() - 1);
-        match generator.up_to(6) {
+        match generator.up_to(8) {
             0 => (),
-            1 => bytes.truncate(at),
+            1 | 7 | 8 => bytes.truncate(at),
             2 => bytes[at] ^= 1 << generator.up_to(7),
             3 => bytes[at] = 0,
             4 => bytes[0] = generator.u64() as u8,

@@ -7,9 +7,6 @@ use Rattle.header_vectors.proofs.agrees.Tie as tie
 slice-aggregate-writes-2 : tie.Need-slice-aggregate-writes-2
 slice-aggregate-writes-2 c = simp length-take (omega arith)
 
-slice-aggregate-reads : tie.Need-slice-aggregate-reads
-slice-aggregate-reads c = simp length-take (omega arith)
-
 pub agrees-spec : {M : Type 1} → statement M
 agrees-spec =
     tie.close
@@ -19,8 +16,6 @@ agrees-spec =
     slice-aggregate-writes-2
     (λ c κs. search needs)
     (λ c. search needs)
-    (λ c κs. search needs)
-    slice-aggregate-reads
     (λ c κs. search needs)
     (λ c κs. search needs)
     (λ c. search needs)

@@ -5,10 +5,10 @@ use Rattle.header_vectors.proofs.run.Statement.{statement}
 use Rattle.header_vectors.proofs.run.Tie as tie
 
 abbrev Inv-loop : tie.InvT-loop
-Inv-loop s vectors₀ edges₀ refused₀ i₀ t10 t11 t12 vectors edges refused i = i ≤ length s
+Inv-loop s vectors₀ edges₀ longer₀ refused₀ i₀ t12 t13 t14 t15 vectors edges longer refused i = i ≤ length s
 
 abbrev μ-loop : tie.MeasureT-loop
-μ-loop s vectors₀ edges₀ refused₀ i₀ t10 t11 t12 vectors edges refused i = length s - i
+μ-loop s vectors₀ edges₀ longer₀ refused₀ i₀ t12 t13 t14 t15 vectors edges longer refused i = length s - i
 
 pub run-spec : {M : Type 1} → statement M
 run-spec =
@@ -29,6 +29,7 @@ run-spec =
     (λ c. search needs)
     (λ c κs. search needs)
     (λ c. search needs)
+    (λ c κs. search needs)
     (λ c. search needs)
     (λ c. search needs)
     (λ c. search needs)
@@ -37,6 +38,11 @@ run-spec =
     (λ c. search needs)
     (λ c. search needs)
     (λ c. search needs)
+    (λ c. search needs)
+    (λ c. search needs)
+    (λ c. search needs)
+    (λ c. search needs)
+    (λ c κs. search needs)
     (λ c. search needs)
     (λ c κs. search needs)
     (λ c. search needs)

@@ -1,7 +1,7 @@
 use mathlib.Core.Path.{sym, _∙_}
 use native.Mathlib.Omega.{arith}
 use borrow.Author.Needs.{needs}
-use Rattle.header.proofs.Laws.{header-read, header-length}
+use Rattle.header.proofs.Laws.{header-read}
 use Rattle.store.proofs.Places.{tested-sound, tested-whole, found-within}
 use Rattle.open_frame.proofs.OpenSteps.{open-unsound, open-invalid, open-missing, held-there, open-found}
 use Rattle.open_frame.proofs.open.Statement.{statement}
@@ -91,7 +91,7 @@ open-with-requires c κs =
     let at-find = to-find-from-open-with-arg c in
     let at-read-header = to-read-header at-find in
     let at-shared-slice-known2 = to-shared-slice-known2 at-read-header in
-    let h = header-read (at-shared-slice-known2 .before .before .args .frame .now) _ _ _ (λ j. omega (arith, at-shared-slice-known2 .shared-slice-known2 .given j)) (sym (at-read-header .read-header .ensures) ∙ at-find .before .before .kid .given .1) in let n = header-length _ _ (h .kid-below) (h .ctr-below) .1 in (c .before .row-at .ensures .0, held-there (at-shared-slice-known2 .before .before .args .store .now) (at-shared-slice-known2 .before .before .args .metadata .now) (at-shared-slice-known2 .before .before .args .frame .now) (at-shared-slice-known2 .before .before .args .room .now) _ _ _ (tested-sound (at-shared-slice-known2 .before .before .args .store .now) (λ j. omega (arith, at-shared-slice-known2 .before .shared-slice-known .given j)) _ (at-read-header .before .before .is-sound .ensures) (at-read-header .before .if1 .left)) (sym (at-read-header .read-header .ensures) ∙ at-find .before .before .kid .given .1) _ (at-find .find .ensures) _ (c .before .before .before .i .given .1) _ (c .before .row-at .ensures), omega (arith, h .length-is, n), h .inside)
+    let h = header-read (at-shared-slice-known2 .before .before .args .frame .now) _ _ _ (λ j. omega (arith, at-shared-slice-known2 .shared-slice-known2 .given j)) (sym (at-read-header .read-header .ensures) ∙ at-find .before .before .kid .given .1) in (c .before .row-at .ensures .0, held-there (at-shared-slice-known2 .before .before .args .store .now) (at-shared-slice-known2 .before .before .args .metadata .now) (at-shared-slice-known2 .before .before .args .frame .now) (at-shared-slice-known2 .before .before .args .room .now) _ _ _ (tested-sound (at-shared-slice-known2 .before .before .args .store .now) (λ j. omega (arith, at-shared-slice-known2 .before .shared-slice-known .given j)) _ (at-read-header .before .before .is-sound .ensures) (at-read-header .before .if1 .left)) (sym (at-read-header .read-header .ensures) ∙ at-find .before .before .kid .given .1) _ (at-find .find .ensures) _ (c .before .before .before .i .given .1) _ (c .before .row-at .ensures), h .most, h .inside)
 
 returns-4 : tie.Need-returns-4
 returns-4 c =

@@ -199,7 +199,8 @@ fn frames_refused() {
     for (bytes, refusal) in [
         (vec![], Refusal::BadHeader),
         (vec![0x80], Refusal::BadHeader),
-        (vec![0x80, 7], Refusal::BadHeader),
+        (vec![0x90, 7], Refusal::BadHeader),
+        (vec![0x80, 7], Refusal::KidUnknown),
         (frame[..2].to_vec(), Refusal::FrameShort),
         (frame[..17].to_vec(), Refusal::FrameShort),
         (frame[..18].to_vec(), Refusal::TagDiffers),

@@ -32,6 +32,8 @@ fn streams_and_hex() {
     let text = done(header, folder.run_with_input(header, &hex));
     assert_eq!(text, b"key number 200, counter 0, header of 2 bytes\n");
     assert_eq!(folder.done("header --kid 200 --ctr 0"), b"80c8\n");
+    let text = done(header, folder.run_with_input(header, b"9000c8"));
+    assert_eq!(text, b"key number 200, counter 0, header of 3 bytes\n");
 }
 
 /// Raw or in hex, from a file or from standard input, it is the same key.

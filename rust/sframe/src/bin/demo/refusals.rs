@@ -77,8 +77,8 @@ fn of_sealing(ward: &mut [u8], doctor: &[u8]) {
 fn of_opening(doctor: &[u8], frame: &[u8]) {
     let doctor = StoreView::over(doctor);
     let mut room = [0xee; 9];
-    let answer = doctor.open(&[0x90, 0x00, 0xc8], Metadata::NONE, &mut room);
-    print(refusal(answer), "a header has key number 200 in two bytes");
+    let answer = doctor.open(&[0x90, 0x00], Metadata::NONE, &mut room);
+    print(refusal(answer), "a header ends within its key number");
     let answer = doctor.open(&frame[..12], Metadata::NONE, &mut room);
     print(refusal(answer), "a frame is cut to 12 bytes");
     let answer = doctor.open(frame, Metadata::NONE, &mut room[..8]);

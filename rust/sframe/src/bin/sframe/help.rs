@@ -32,10 +32,10 @@ Each frame that is sealed uses up one counter of its key.
       it was in sealing.
 
   sframe header --kid K --ctr N
-      Writes the header of a key number and a counter, in hex.
+      Writes the header of a key number and a counter, the shortest, in hex.
 
   sframe header --in FILE [--hex]
-      Reads the header that a frame starts with.
+      Reads the header that a frame starts with, be it longer than the shortest.
 
 FILE may be - for standard input or standard output, which is also what --in
 and --out are when they are left out. Numbers are decimal, or hex after 0x.
@@ -55,7 +55,7 @@ Exit status: 0 done; 1 to 13 refused, with these causes:
    1  the store is not sound, or not      8  the key has no counter left
       1 to 64 keys in making              9  plaintext above 32768 bytes, or
    2  no such suite                          metadata above 1024
-   3  base key not of 16 to 64 bytes     10  header cut short or not shortest
+   3  base key not of 16 to 64 bytes     10  header cut short
    4  key number already in the store    11  frame too short for a tag
    5  no empty record left               12  room too short (not met here)
    6  key number not in the store        13  the tag does not match
