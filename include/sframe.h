@@ -62,7 +62,12 @@ enum sframe_answer {
     /* The room is shorter than the result. */
     SFRAME_ROOM_SHORT = 12,
     /* The tag is not the one of this frame, key and metadata. */
-    SFRAME_TAG_DIFFERS = 13
+    SFRAME_TAG_DIFFERS = 13,
+    /* The bits of the step are not 1 to SFRAME_MAX_RATCHET_BITS, or the key number does not fit in 64
+     * bits. */
+    SFRAME_RATCHET_KID_INVALID = 20,
+    /* More than SFRAME_MAX_STEPS steps. */
+    SFRAME_TOO_MANY_STEPS = 21
 };
 
 /* The cipher suites, by their registered numbers. */
@@ -87,6 +92,10 @@ enum sframe_suite {
 /* The longest header and the longest tag, in bytes. */
 #define SFRAME_MAX_HEADER 17
 #define SFRAME_MAX_TAG 16
+
+/* The most steps of one call of sframe_ratchet, and the most bits of the step in a key number. */
+#define SFRAME_MAX_STEPS 64
+#define SFRAME_MAX_RATCHET_BITS 16
 
 /* A room that is enough for the frame of a plaintext of so many bytes, under every suite. */
 #define SFRAME_FRAME_ROOM(plaintext_len) ((size_t)(plaintext_len) + SFRAME_MAX_HEADER + SFRAME_MAX_TAG)
@@ -169,6 +178,31 @@ uint32_t sframe_write_header(uint64_t kid, uint64_t ctr, uint8_t *out, size_t ou
  * SFRAME_HEADER_INVALID: the bytes end before the header does; *kid, *ctr and *length are 0.
  */
 uint32_t sframe_read_header(const uint8_t *bytes, size_t bytes_len, uint64_t *kid, uint64_t *ctr, size_t *length);
+
+/*
+ * Walks a base key so many steps forward, as the sender of RFC 9605 section 5.1 ratchets it, and writes
+ * the key to the start of out. No step gives the base key back as it is. After one step or more the key
+ * has as many bytes as the suite's hash: 32, and 64 with SFRAME_AES_256_GCM_SHA512_128. A room of
+ * SFRAME_MAX_BASE_KEY always suffices. The key goes into a store by sframe_add_sending or
+ * sframe_add_receiving, under the key number of its step.
+ *
+ * SFRAME_DONE: *length is the key's length, and the room beyond it stays as it was.
+ * Else the first of SFRAME_SUITE_UNKNOWN, SFRAME_BASE_KEY_LENGTH, SFRAME_TOO_MANY_STEPS,
+ * SFRAME_ROOM_SHORT that holds: *length is 0 and the room stays as it was.
+ */
+uint32_t sframe_ratchet(uint64_t suite, const uint8_t *base_key, size_t base_key_len, uint64_t steps, uint8_t *out,
+                        size_t out_len, size_t *length);
+
+/*
+ * The key number of a step in a generation of keys: its low bits are those of the step, and the others
+ * are the generation. So the number of a step returns after 2^bits steps; where the store still has its
+ * record, be it a retired one, adding it is refused with SFRAME_KID_HELD.
+ *
+ * SFRAME_DONE: *kid is generation * 2^bits + step % 2^bits.
+ * SFRAME_RATCHET_KID_INVALID: bits is not 1 to SFRAME_MAX_RATCHET_BITS, or that number is 2^64 or more;
+ * *kid is 0.
+ */
+uint32_t sframe_ratchet_kid(uint64_t generation, uint64_t step, uint64_t bits, uint64_t *kid);
 
 #ifdef __cplusplus
 }

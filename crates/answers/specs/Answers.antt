@@ -45,6 +45,12 @@ frameShort = 11
 abbrev pub tagDiffers : ℕ
 tagDiffers = 13
 
+abbrev pub ratchetKidInvalid : ℕ
+ratchetKidInvalid = 20
+
+abbrev pub stepsTooMany : ℕ
+stepsTooMany = 21
+
 -- A cause of refusal: its number, and whether it applies.
 pub record Cause : Type 0 where
   pub number : ℕ

@@ -31,6 +31,10 @@ pub const ROOM_SHORT: u32 = 12;
 
 pub const TAG_DIFFERS: u32 = 13;
 
+pub const RATCHET_KID_INVALID: u32 = 20;
+
+pub const STEPS_TOO_MANY: u32 = 21;
+
 // The shortest base key, and the longest.
 pub const MIN_BASE_KEY: usize = 16;
 

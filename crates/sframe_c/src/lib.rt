@@ -10,6 +10,7 @@ ghost use Rattle.store.specs.declared.Role.the-variants.{Sending, Receiving};
 ghost use Rattle.add_key.specs.Add.{add};
 ghost use Rattle.seal_frame.specs.Seal.{seal};
 ghost use Rattle.open_frame.specs.Open.{opening};
+ghost use Rattle.ratchet.specs.Calls.{walk, kidNumber, kidGiven};
 use answers::DONE;
 use answers::HEADER_INVALID;
 use answers::ROOM_SHORT;
@@ -130,5 +131,32 @@ pub extern "C" fn sframe_open(
 {
     let answer = open_frame::open(store, frame, metadata, out);
     *length = answer.length;
+    answer.number
+}
+
+#[no_mangle]
+pub extern "C" fn sframe_ratchet(
+    suite: u64,
+    base: &[u8],
+    steps: u64,
+    out: &mut [u8],
+    length: &mut usize,
+) -> u32
+    ensures { λ r. ⌜ r ≡ walk suite (now (base .entry)) steps (now (out .entry)) .number ⌝ }
+    ensures { λ r. ⌜ now (length .exit) ≡ walk suite (now (base .entry)) steps (now (out .entry)) .written ⌝ }
+    ensures { λ r. ⌜ now (out .exit) ≡ walk suite (now (base .entry)) steps (now (out .entry)) .room ⌝ }
+{
+    let answer = ratchet::walk(suite, base, steps, out);
+    *length = answer.length;
+    answer.number
+}
+
+#[no_mangle]
+pub extern "C" fn sframe_ratchet_kid(generation: u64, step: u64, bits: u64, kid: &mut u64) -> u32
+    ensures { λ r. ⌜ r ≡ kidNumber generation step bits ⌝ }
+    ensures { λ r. ⌜ now (kid .exit) ≡ kidGiven generation step bits ⌝ }
+{
+    let answer = ratchet::kid_of(generation, step, bits);
+    *kid = answer.kid.0;
     answer.number
 }

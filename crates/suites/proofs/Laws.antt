@@ -23,10 +23,10 @@ use Rattle.suites.specs.declared.sizes.Suite.the-variants.{Ctr80, Ctr64,
 use Rattle.suites.specs.declared.sizes.Mode.{Mode}
 use Rattle.suites.specs.declared.sizes.Mode.the-variants.{CtrHmac, Gcm}
 use Rattle.suites.specs.declared.sizes.Found.the-variants.{Known, Unknown}
-use Rattle.suites.specs.Suites.{table, suiteOf, numberOf, Nk, Nka, Nn, Nt, hashOf, modeOf, cipherKeySize}
+use Rattle.suites.specs.Suites.{table, suiteOf, numberOf, Nh, Nk, Nka, Nn, Nt, hashOf, modeOf, cipherKeySize}
 use Rattle.suites.specs.Derivation.{secretKey, secretSalt, derived, sframeKey, sframeSalt, nonce}
 use Rattle.suites.specs.Aead.{cipherKey, firstCount, ctrTag, tagIn, ciphertext, tag, encrypt, plain, differs, decrypt}
-use Rattle.hmac.specs.Hkdf.{hashLen}
+use Rattle.hmac.specs.Hkdf.{hashLen, expand}
 use Rattle.hmac.proofs.Laws.{hmac-length, hmac-octets, expand-length, expand-octets}
 
 -- ---- numbers
@@ -68,6 +68,21 @@ number-is (suc (suc (suc (suc (suc (suc n)))))) s e =
     absurd (omega arith)
 
 -- ---- sizes
+
+-- Nh lies within the lengths of a base key
+pub Nh-least : (s : Suite) → 16 ≤ Nh s
+Nh-least Ctr80 = omega arith
+Nh-least Ctr64 = omega arith
+Nh-least Ctr32 = omega arith
+Nh-least Gcm128 = omega arith
+Nh-least Gcm256 = omega arith
+
+pub Nh-most : (s : Suite) → Nh s ≤ 64
+Nh-most Ctr80 = omega arith
+Nh-most Ctr64 = omega arith
+Nh-most Ctr32 = omega arith
+Nh-most Gcm128 = omega arith
+Nh-most Gcm256 = omega arith
 
 pub Nk-most : (s : Suite) → Nk s ≤ 48
 Nk-most Ctr80 = omega arith
@@ -149,14 +164,20 @@ hash-some Ctr32 = omega arith
 hash-some Gcm128 = omega arith
 hash-some Gcm256 = omega arith
 
--- what is derived has the length asked for, and is bytes
+-- what is expanded with a suite's hash has the length asked for, and is bytes
+pub expanded-length : (s : Suite) (prk info : List ℕ) (n : ℕ) → length (expand (hashOf s) prk info n) ≡ n
+expanded-length s prk info n = expand-length (hashOf s) (hash-eight s) (hash-some s) prk info n
+
+pub expanded-octets : (s : Suite) (prk info : List ℕ) (n : ℕ) → Octets (expand (hashOf s) prk info n)
+expanded-octets s prk info n = expand-octets (hashOf s) prk info n
+
 derived-length : (t : List ℕ) (s : Suite) (base : List ℕ) (kid n : ℕ) → length (derived t s base kid n) ≡ n
 unfolding derived
-derived-length t s base kid n = expand-length (hashOf s) (hash-eight s) (hash-some s) _ _ n
+derived-length t s base kid n = expanded-length s _ _ n
 
 derived-octets : (t : List ℕ) (s : Suite) (base : List ℕ) (kid n : ℕ) → Octets (derived t s base kid n)
 unfolding derived
-derived-octets t s base kid n = expand-octets (hashOf s) _ _ n
+derived-octets t s base kid n = expanded-octets s _ _ n
 
 pub key-length : (s : Suite) (base : List ℕ) (kid : ℕ) → length (sframeKey s base kid) ≡ Nk s
 unfolding sframeKey

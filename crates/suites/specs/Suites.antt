@@ -58,6 +58,9 @@ paramsOf Sha512 = sha512
 abbrev pub hashOf : Suite → Params
 hashOf s = paramsOf (table s .hash)
 
+abbrev pub Nh : Suite → ℕ
+Nh s = table s .nh
+
 abbrev pub Nk : Suite → ℕ
 Nk s = table s .nk
 

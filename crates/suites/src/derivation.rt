@@ -53,7 +53,7 @@ pub fn nonce_of(salt: &[u8], ctr: Ctr) -> [u8; NN]
 }
 
 // Fills out from the base key under a label.
-fn expand_label(suite: Suite, base: &[u8], info: &[u8], out: &mut [u8])
+pub fn expand_label(suite: Suite, base: &[u8], info: &[u8], out: &mut [u8])
     requires { ⌜ length (now out) ≤ limit sha256 ⌝ }
     requires { ⌜ (length (now base) ≤ largest) × (length (now info) ≤ largest) ⌝ }
     ensures { λ _. ⌜ now (out .exit) ≡ expand (hashOf suite) (secret suite (now (base .entry))) (now (info .entry)) (length (now (out .entry))) ⌝ }

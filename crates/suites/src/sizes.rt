@@ -1,12 +1,14 @@
 // Each suite as a type with its sizes in bytes (RFC 9605, Table 1), and all five as one enum.
 ghost use mathlib.Core.Path.{_≡_};
-ghost use Rattle.suites.specs.Suites.{suiteOf, numberOf, modeOf, hashOf, paramsOf, cipherKeySize, Nk, Nn, Nt};
+ghost use Rattle.suites.specs.Suites.{suiteOf, numberOf, modeOf, hashOf, paramsOf, cipherKeySize, Nh, Nk, Nn, Nt};
 
 // AES_128_CTR_HMAC_SHA256_80
 pub struct Aes128CtrHmacSha256Tag80;
 
 impl Aes128CtrHmacSha256Tag80 {
     pub const NUMBER: u64 = 1;
+
+    pub const NH: usize = 32;
 
     pub const NKA: usize = 16;
 
@@ -23,6 +25,8 @@ pub struct Aes128CtrHmacSha256Tag64;
 impl Aes128CtrHmacSha256Tag64 {
     pub const NUMBER: u64 = 2;
 
+    pub const NH: usize = 32;
+
     pub const NKA: usize = 16;
 
     pub const NK: usize = 48;
@@ -37,6 +41,8 @@ pub struct Aes128CtrHmacSha256Tag32;
 
 impl Aes128CtrHmacSha256Tag32 {
     pub const NUMBER: u64 = 3;
+
+    pub const NH: usize = 32;
 
     pub const NKA: usize = 16;
 
@@ -53,6 +59,8 @@ pub struct Aes128GcmSha256;
 impl Aes128GcmSha256 {
     pub const NUMBER: u64 = 4;
 
+    pub const NH: usize = 32;
+
     pub const NK: usize = 16;
 
     pub const NN: usize = 12;
@@ -65,6 +73,8 @@ pub struct Aes256GcmSha512;
 
 impl Aes256GcmSha512 {
     pub const NUMBER: u64 = 5;
+
+    pub const NH: usize = 64;
 
     pub const NK: usize = 32;
 
@@ -126,6 +136,19 @@ impl Suite {
             Suite::Ctr32 => Aes128CtrHmacSha256Tag32::NUMBER,
             Suite::Gcm128 => Aes128GcmSha256::NUMBER,
             Suite::Gcm256 => Aes256GcmSha512::NUMBER,
+        }
+    }
+
+    // Nh, the bytes of what the hash gives.
+    pub fn hash_size(self) -> usize
+        ensures { λ r. ⌜ r ≡ Nh self ⌝ }
+    {
+        match self {
+            Suite::Ctr80 => Aes128CtrHmacSha256Tag80::NH,
+            Suite::Ctr64 => Aes128CtrHmacSha256Tag64::NH,
+            Suite::Ctr32 => Aes128CtrHmacSha256Tag32::NH,
+            Suite::Gcm128 => Aes128GcmSha256::NH,
+            Suite::Gcm256 => Aes256GcmSha512::NH,
         }
     }
 

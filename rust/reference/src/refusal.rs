@@ -29,6 +29,10 @@ pub enum Refusal {
     RoomShort = 12,
     /// The tag differs.
     TagDiffers = 13,
+    /// The bits of the step are not 1 to 16, or the KID is past 64 bits.
+    BadRatchetKid = 20,
+    /// More than 64 steps.
+    TooManySteps = 21,
 }
 
 /// What a call answers: the length of its result, or why it refuses.

@@ -43,6 +43,14 @@ impl Suite {
         self as u64
     }
 
+    /// Nh: the length of the hash.
+    pub fn nh(self) -> usize {
+        match self {
+            Aes256GcmSha512_128 => 64,
+            _ => 32,
+        }
+    }
+
     /// Nka: how many bytes of the key encrypt, the others authenticating.
     /// `None` where the suite does not part its key.
     pub fn nka(self) -> Option<usize> {

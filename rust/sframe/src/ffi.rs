@@ -71,4 +71,18 @@ extern "C" {
         ctr: *mut u64,
         length: *mut usize,
     ) -> u32;
+
+    /// Walks `base_key` so many steps forward, to the front of `out`.
+    pub fn sframe_ratchet(
+        suite: u64,
+        base_key: *const u8,
+        base_key_len: usize,
+        steps: u64,
+        out: *mut u8,
+        out_len: usize,
+        length: *mut usize,
+    ) -> u32;
+
+    /// The key number of a generation and a step.
+    pub fn sframe_ratchet_kid(generation: u64, step: u64, bits: u64, kid: *mut u64) -> u32;
 }

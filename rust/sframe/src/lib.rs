@@ -29,6 +29,7 @@ pub mod ffi;
 mod header;
 mod limits;
 mod metadata;
+mod ratchet;
 #[allow(unsafe_code)]
 pub mod raw;
 mod record;
@@ -39,10 +40,11 @@ mod view;
 
 pub use header::{read_header, write_header, Ctr, Header, Kid, MAX_HEADER};
 pub use limits::{
-    frame_room, MAX_BASE_KEY, MAX_COUNTER, MAX_METADATA, MAX_PLAINTEXT, MAX_RECORDS, MIN_BASE_KEY,
-    RECORD,
+    frame_room, MAX_BASE_KEY, MAX_COUNTER, MAX_METADATA, MAX_PLAINTEXT, MAX_RATCHET_BITS,
+    MAX_RECORDS, MAX_STEPS, MIN_BASE_KEY, RECORD,
 };
 pub use metadata::Metadata;
+pub use ratchet::{ratchet, ratchet_kid, ratchet_to_vec};
 pub use record::{Record, State};
 pub use refusal::Refusal;
 pub use store::{Role, Store};

@@ -16,6 +16,10 @@ pub const MAX_PLAINTEXT: usize = 32_768;
 pub const MAX_METADATA: usize = 1_024;
 /// How many frames one key seals: its counters stay below this.
 pub const MAX_COUNTER: u64 = 1 << 40;
+/// The most steps of one walk of a base key.
+pub const MAX_STEPS: u64 = 64;
+/// The most bits of the step in a key number.
+pub const MAX_RATCHET_BITS: u64 = 16;
 
 /// A room that is long enough for every frame of `plaintext` bytes.
 ///

@@ -6,9 +6,11 @@
 //! else of the call.
 
 mod header;
+mod ratchet;
 mod store;
 
 pub use header::{read_header, write_header, Read};
+pub use ratchet::{ratchet, ratchet_kid, RatchetKid};
 pub use store::{add_receiving, add_sending, make, open, remove, seal};
 
 /// A value to start an answer from that no call leaves in place by chance.

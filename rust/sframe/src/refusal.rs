@@ -48,13 +48,18 @@ pub enum Refusal {
     /// The frame was not sealed under this key and with this metadata, or it
     /// has changed on its way.
     TagDiffers = 13,
+    /// The bits of the step in a key number are not 1 to 16, or the key number
+    /// does not fit in 64 bits.
+    BadRatchetKid = 20,
+    /// A base key is walked more than 64 steps at once.
+    TooManySteps = 21,
 }
 
 use Refusal::*;
 
 impl Refusal {
     /// Every refusal, by rising number.
-    pub const ALL: [Refusal; 13] = [
+    pub const ALL: [Refusal; 15] = [
         StoreNotSound,
         NoSuchSuite,
         BaseKeyLength,
@@ -68,6 +73,8 @@ impl Refusal {
         FrameShort,
         RoomShort,
         TagDiffers,
+        BadRatchetKid,
+        TooManySteps,
     ];
 
     /// The number of the refusal in the C interface.
@@ -112,6 +119,8 @@ impl fmt::Display for Refusal {
             FrameShort => "the frame is too short to hold a tag",
             RoomShort => "the room is too short for the result",
             TagDiffers => "the tag does not match",
+            BadRatchetKid => "a step has 1 to 16 bits, and the key number must fit in 64",
+            TooManySteps => "a key is walked at most 64 steps at once",
         })
     }
 }

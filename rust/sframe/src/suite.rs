@@ -60,6 +60,17 @@ impl Suite {
         self as u64
     }
 
+    /// Nh: the length of the hash, and of a base key after a step of the ratchet.
+    pub const fn nh(self) -> usize {
+        match self {
+            Aes128CtrHmacSha256_80
+            | Aes128CtrHmacSha256_64
+            | Aes128CtrHmacSha256_32
+            | Aes128GcmSha256_128 => 32,
+            Aes256GcmSha512_128 => 64,
+        }
+    }
+
     /// Nka: how many bytes of the key encrypt, where the others authenticate.
     /// `None` where one key does both.
     pub const fn nka(self) -> Option<usize> {

@@ -33,8 +33,11 @@ fn refusals() {
         "FRAME_SHORT",
         "ROOM_SHORT",
         "TAG_DIFFERS",
+        "RATCHET_KID_INVALID",
+        "TOO_MANY_STEPS",
     ];
     assert_eq!(constants["SFRAME_DONE"], 0);
+    assert_eq!(names.len(), Refusal::ALL.len());
     for (name, refusal) in names.into_iter().zip(Refusal::ALL) {
         let number = constants[&*format!("SFRAME_{name}")];
         assert_eq!(number, u64::from(refusal.number()), "{name}");
@@ -61,6 +64,8 @@ fn sizes() {
         ("MAX_METADATA", MAX_METADATA),
         ("MAX_HEADER", MAX_HEADER),
         ("MAX_TAG", longest_tag.unwrap_or(0)),
+        ("MAX_STEPS", MAX_STEPS as usize),
+        ("MAX_RATCHET_BITS", MAX_RATCHET_BITS as usize),
     ] {
         assert_eq!(constants[&*format!("SFRAME_{name}")], size as u64, "{name}");
     }

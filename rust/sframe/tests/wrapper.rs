@@ -20,13 +20,15 @@ fn stores(suite: Suite) -> ([u8; 2 * RECORD], [u8; 2 * RECORD]) {
 
 #[test]
 fn numbers_and_names_of_refusals() {
-    for (number, refusal) in (1..).zip(Refusal::ALL) {
+    let numbers = (1..=13).chain([20, 21]);
+    assert_eq!(numbers.clone().count(), Refusal::ALL.len());
+    for (number, refusal) in numbers.zip(Refusal::ALL) {
         assert_eq!(refusal.number(), number);
         assert_eq!(Refusal::from_number(number), Some(refusal));
         let same = |other: &&Refusal| other.to_string() == refusal.to_string();
         assert_eq!(Refusal::ALL.iter().filter(same).count(), 1);
     }
-    for number in [0, 14, 256 + 1, u32::MAX] {
+    for number in [0, 14, 19, 22, 256 + 1, u32::MAX] {
         assert_eq!(Refusal::from_number(number), None);
     }
 }

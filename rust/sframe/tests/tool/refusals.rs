@@ -224,3 +224,23 @@ fn frames_refused() {
     let open = "open doctor --in frame";
     assert_eq!(done(open, folder.run(open)), b"a picture");
 }
+
+#[test]
+fn ratchet() {
+    let folder = folder("refused-ratchet");
+    folder.write("short", &[7; 15]);
+    for (line, refusal) in [
+        ("--suite 6 --key short --steps 65", Refusal::NoSuchSuite),
+        ("--suite 1 --key short --steps 65", Refusal::BaseKeyLength),
+        ("--suite 1 --key key --steps 65", Refusal::TooManySteps),
+    ] {
+        refused(&folder, &format!("ratchet {line} --out walked"), refusal);
+    }
+    for line in [
+        "--generation 0 --step 0 --bits 0",
+        "--generation 0 --step 0 --bits 17",
+        "--generation 0x1000000000000000 --step 0 --bits 4",
+    ] {
+        refused(&folder, &format!("kid {line}"), Refusal::BadRatchetKid);
+    }
+}

@@ -104,7 +104,9 @@ fn list_shows_everything_but_keys() {
 fn help_names_every_command() {
     let folder = Folder::new("help");
     let help = String::from_utf8(folder.done("--help")).unwrap();
-    for command in ["make", "add", "remove", "list", "seal", "open", "header"] {
+    for command in [
+        "make", "add", "remove", "list", "seal", "open", "header", "ratchet", "kid",
+    ] {
         assert!(help.contains(&format!("sframe {command} ")), "{command}");
     }
     assert!(help.lines().all(|line| line.len() <= 80));
@@ -264,4 +266,55 @@ fn a_link_stays_a_link() {
     let header = folder.done("header --in frame");
     assert!(header.starts_with(b"key number 200, counter 1,"));
     assert!(folder.path("link").is_symlink());
+}
+
+/// A receiver walks to the step that a frame names; raw and in hex.
+#[test]
+fn ratchet_and_key_numbers() {
+    let folder = Folder::new("ratchet");
+    folder.write("first", &[7; 16]);
+    folder.write("text", "07".repeat(16).as_bytes());
+    let kid = String::from_utf8(folder.done("kid --generation 2 --step 21 --bits 4")).unwrap();
+    assert_eq!(kid, "37\n");
+    let kid = kid.trim();
+    folder.done("ratchet --suite 5 --key first --steps 21 --out sent");
+    folder.done("ratchet --suite 5 --key text --hex --steps 3 --out third");
+    folder.done("ratchet --suite 5 --key third --hex --steps 18 --out received");
+    folder.done("make ward --keys 1");
+    folder.done("make doctor --keys 1");
+    folder.done(&format!(
+        "add ward --sending --kid {kid} --suite 5 --key sent"
+    ));
+    folder.done(&format!(
+        "add doctor --receiving --kid {kid} --suite 5 --key received --hex"
+    ));
+    folder.write("picture", b"a picture");
+    folder.done(&format!("seal ward --kid {kid} --in picture --out frame"));
+    assert_eq!(folder.done("open doctor --in frame"), b"a picture");
+
+    folder.done("ratchet --suite 5 --key first --steps 0 --out same");
+    assert_eq!(folder.read("same"), [7; 16]);
+}
+
+/// A walked key is in a file of its own that others cannot read.
+#[test]
+fn where_a_walked_key_goes() {
+    let folder = Folder::new("ratchet-file");
+    folder.write("first", &[7; 16]);
+    folder.done("ratchet --suite 1 --key first --steps 1 --out next");
+    #[cfg(unix)]
+    {
+        use std::os::unix::fs::PermissionsExt;
+        let mode = folder.path("next").metadata().unwrap().permissions().mode();
+        assert_eq!(mode & 0o777, 0o600);
+    }
+    let before = folder.read("next");
+    assert_eq!(before.len(), 32);
+    folder.fails("ratchet --suite 1 --key first --steps 2 --out next", 74);
+    folder.fails("ratchet --suite 1 --key first --steps 1 --out first", 74);
+    folder.fails("ratchet --suite 1 --key first --steps 1 --out -", 64);
+    folder.fails("ratchet --suite 1 --key first --steps 1", 64);
+    folder.fails("kid --generation 1 --step 1", 64);
+    assert_eq!(folder.read("next"), before);
+    assert_eq!(folder.files(), ["first", "next"]);
 }

@@ -2,7 +2,8 @@
 
 use crate::{refusal, BASE_KEY, KID};
 use sframe::{
-    raw, Kid, Metadata, Refusal, Role, Store, StoreView, Suite, MAX_COUNTER, MAX_PLAINTEXT, RECORD,
+    ratchet, ratchet_kid, raw, Kid, Metadata, Refusal, Role, Store, StoreView, Suite, MAX_COUNTER,
+    MAX_PLAINTEXT, RECORD,
 };
 
 const SUITE: Suite = Suite::Aes128GcmSha256_128;
@@ -22,6 +23,7 @@ pub fn show() -> Result<(), Refusal> {
     of_stores(&mut ward, &mut doctor);
     of_sealing(&mut ward, &doctor);
     of_opening(&doctor, &frame);
+    of_ratchet();
     assert_eq!((ward, doctor), before);
     Ok(())
 }
@@ -92,4 +94,13 @@ fn of_opening(doctor: &[u8], frame: &[u8]) {
     let answer = doctor.open(&damaged, Metadata::NONE, &mut room);
     print(refusal(answer), "a frame has one bit changed");
     assert_eq!(room, [0xee; 9]);
+}
+
+fn of_ratchet() {
+    let answer = ratchet_kid(0, 1, 17);
+    print(refusal(answer), "a key number has 17 bits of the step");
+    let mut room = [0xee; 64];
+    let answer = ratchet(SUITE, BASE_KEY, 65, &mut room);
+    print(refusal(answer), "a base key is walked 65 steps at once");
+    assert_eq!(room, [0xee; 64]);
 }

@@ -46,6 +46,18 @@ pub enum Command {
         frame: Place,
         hex: bool,
     },
+    Ratchet {
+        suite: u64,
+        key: Place,
+        hex: bool,
+        steps: u64,
+        output: PathBuf,
+    },
+    RatchetKid {
+        generation: u64,
+        step: u64,
+        bits: u64,
+    },
 }
 
 /// What sealing and opening read and write.
@@ -100,6 +112,12 @@ impl Command {
                 streams: words.streams()?,
             },
             "header" => words.header()?,
+            "ratchet" => words.ratchet()?,
+            "kid" => Command::RatchetKid {
+                generation: words.number("--generation")?,
+                step: words.number("--step")?,
+                bits: words.number("--bits")?,
+            },
             _ => return Err(Failure::usage(format!("there is no command {name:?}"))),
         };
         words.finish()?;
@@ -108,7 +126,7 @@ impl Command {
 }
 
 /// The options that take a value, and those that take none.
-const VALUES: [&str; 8] = [
+const VALUES: [&str; 12] = [
     "--keys",
     "--kid",
     "--suite",
@@ -117,6 +135,10 @@ const VALUES: [&str; 8] = [
     "--out",
     "--metadata",
     "--ctr",
+    "--steps",
+    "--generation",
+    "--step",
+    "--bits",
 ];
 const FLAGS: [&str; 4] = ["--sending", "--receiving", "--hex", "--help"];
 
@@ -228,6 +250,21 @@ impl Words {
                 ctr: Ctr(self.number("--ctr")?),
             }),
         }
+    }
+
+    /// The key goes to a file and never to standard output.
+    fn ratchet(&mut self) -> Result<Command, Failure> {
+        let output = match self.required("--out")?.into() {
+            Place::File(path) => path,
+            Place::Standard => return Err(Failure::usage("--out must be a file")),
+        };
+        Ok(Command::Ratchet {
+            suite: self.number("--suite")?,
+            key: self.required("--key")?.into(),
+            hex: self.flag("--hex"),
+            steps: self.number("--steps")?,
+            output,
+        })
     }
 
     /// Checks that every word was used.

@@ -8,8 +8,9 @@ use crate::hex;
 use crate::input::Place;
 use crate::store_file::StoreFile;
 use sframe::{
-    frame_room, raw, read_header, write_header, Ctr, Kid, Metadata, Refusal, Role, Store,
-    StoreView, Suite, MAX_BASE_KEY, MAX_HEADER, MAX_METADATA, MAX_PLAINTEXT, MAX_RECORDS, RECORD,
+    frame_room, ratchet_kid, raw, read_header, write_header, Ctr, Kid, Metadata, Refusal, Role,
+    Store, StoreView, Suite, MAX_BASE_KEY, MAX_HEADER, MAX_METADATA, MAX_PLAINTEXT, MAX_RECORDS,
+    RECORD,
 };
 use std::io::Write;
 use std::path::Path;
@@ -30,12 +31,7 @@ pub fn run(command: Command, disk: &mut impl Disk, out: &mut impl Write) -> Resu
             key,
             hex,
         } => {
-            let base_key = match hex {
-                true => key.read_hex(MAX_BASE_KEY),
-                false => key.read(MAX_BASE_KEY),
-            };
-            // The path is not shown: by mistake it could be the key.
-            let base_key = base_key.map_err(|failure| failure.naming("--key"))?;
+            let base_key = read_key(&key, hex)?;
             change(disk, &store, |bytes| {
                 add(bytes, role, kid, suite, &base_key)
             })
@@ -60,6 +56,24 @@ pub fn run(command: Command, disk: &mut impl Disk, out: &mut impl Write) -> Resu
             let (Kid(kid), Ctr(ctr), length) = (header.kid, header.ctr, header.length);
             let text = format!("key number {kid}, counter {ctr}, header of {length} bytes\n");
             print(out, &text)
+        }
+        Command::Ratchet {
+            suite,
+            key,
+            hex,
+            steps,
+            output,
+        } => {
+            let base_key = read_key(&key, hex)?;
+            walk(disk, suite, &base_key, steps, hex, &output)
+        }
+        Command::RatchetKid {
+            generation,
+            step,
+            bits,
+        } => {
+            let Kid(kid) = ratchet_kid(generation, step, bits)?;
+            print(out, &format!("{kid}\n"))
         }
     }
 }
@@ -174,6 +188,38 @@ fn open(
     streams.output.write(&plaintext, out)
 }
 
+/// The key goes to a new file that only its owner can read. The layer itself
+/// judges the suite's number, as in `add`.
+fn walk(
+    disk: &mut impl Disk,
+    suite: u64,
+    base_key: &[u8],
+    steps: u64,
+    as_hex: bool,
+    output: &Path,
+) -> Result<(), Failure> {
+    let mut key = [0; MAX_BASE_KEY];
+    let written = raw::ratchet(suite, base_key, steps, &mut key);
+    if let Some(refusal) = Refusal::from_number(written.number) {
+        return Err(refusal.into());
+    }
+    let key = &key[..written.length];
+    let text = match as_hex {
+        true => format!("{}\n", hex::encode(key)).into_bytes(),
+        false => key.to_vec(),
+    };
+    let mut file = disk.create(output).map_err(Failure::at(output))?;
+    let kept = disk
+        .write(&mut file, &text)
+        .and_then(|()| disk.sync(&mut file));
+    if let Err(error) = kept {
+        // The first failure is the one to tell.
+        let _ = disk.remove(output);
+        return Err(Failure::at(output)(error));
+    }
+    Ok(())
+}
+
 /// Refuses to write the result over the store.
 fn spare_store(store: &Path, output: &Place) -> Result<(), Failure> {
     match output {
@@ -182,6 +228,15 @@ fn spare_store(store: &Path, output: &Place) -> Result<(), Failure> {
         }
         _ => Ok(()),
     }
+}
+
+/// The path of a key is not shown: by mistake it could be the key.
+fn read_key(place: &Place, hex: bool) -> Result<Vec<u8>, Failure> {
+    match hex {
+        true => place.read_hex(MAX_BASE_KEY),
+        false => place.read(MAX_BASE_KEY),
+    }
+    .map_err(|failure| failure.naming("--key"))
 }
 
 fn read_frame(place: &Place, hex: bool) -> Result<Vec<u8>, Failure> {

@@ -37,6 +37,14 @@ Each frame that is sealed uses up one counter of its key.
   sframe header --in FILE [--hex]
       Reads the header that a frame starts with, be it longer than the shortest.
 
+  sframe ratchet --suite S --key FILE --steps N --out NEWFILE [--hex]
+      Walks a base key N steps forward, 0 to 64, and writes it to a new file
+      that only its owner can read; with --hex both files hold hex digits.
+
+  sframe kid --generation G --step N --bits R
+      Writes the key number of a step: its low R bits, 1 to 16, are the step's,
+      the others are the generation.
+
 FILE may be - for standard input or standard output, which is also what --in
 and --out are when they are left out. Numbers are decimal, or hex after 0x.
 
@@ -51,7 +59,7 @@ Frames are no longer safe once a key has used a counter twice. That happens with
 a copy of a store, with a store put back as it was before, say from a backup,
 and with a new store that gets the same keys for sending: never seal with these.
 
-Exit status: 0 done; 1 to 13 refused, with these causes:
+Exit status: 0 done; 1 to 13, 20 and 21 refused, with these causes:
    1  the store is not sound, or not      8  the key has no counter left
       1 to 64 keys in making              9  plaintext above 32768 bytes, or
    2  no such suite                          metadata above 1024
@@ -59,7 +67,8 @@ Exit status: 0 done; 1 to 13 refused, with these causes:
    4  key number already in the store    11  frame too short for a tag
    5  no empty record left               12  room too short (not met here)
    6  key number not in the store        13  the tag does not match
-   7  role does not allow it
+   7  role does not allow it             20  not 1 to 16 bits of a step, or a
+  21  more than 64 steps                     key number past 64 bits
 64 the command line is wrong; 65 an input is not hex; 74 a file failed.
 
 Example, sealing at one end and opening at the other:

@@ -1,0 +1,3 @@
+pub mod Ratchet
+pub mod Calls
+pub mod inner
