@@ -48,6 +48,11 @@ pub record AesTakes (key block out : List ℕ) : Type 0 where
   pub blocked : length block ≡ 16
   pub room : 16 ≤ length out
 
+pub record AesRepeatTakes (key block out : List ℕ) : Type 0 where
+  pub keyed : AesKey key
+  pub blocked : length block ≡ 16
+  pub room : length out ≡ 16
+
 pub record CtrTakes (key nonce : List ℕ) (count : ℕ) (input out : List ℕ) : Type 0 where
   pub keyed : AesKey key
   pub nonced : length nonce ≡ Nn

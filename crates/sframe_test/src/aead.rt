@@ -5,11 +5,13 @@ ghost use mathlib.Core.List.{_++_};
 ghost use Prim.Native.Nat.{_+_};
 ghost use lib.ListN.{length, drop};
 ghost use Rattle.octets.specs.Octets.{number, bytes};
-ghost use Rattle.aes.specs.Aes.{encrypt};
+ghost use Rattle.aes.specs.Aes.{blockSize, encrypt};
+ghost use Rattle.aes.specs.inner.Context.{Ready, keyOf};
 ghost use Rattle.gcm.specs.Counter.{ctr};
 ghost use Rattle.ghash.specs.Ghash.{absorb};
 ghost use Rattle.gcm.specs.Gcm.{gcmTag, gcmEncrypt};
-ghost use Rattle.sframe_test.specs.Judged.{Judged, AesTakes, CtrTakes, GhashTakes, GcmTakes};
+ghost use Rattle.sframe_test.specs.Judged.{Judged, AesTakes, AesRepeatTakes, CtrTakes, GhashTakes, GcmTakes};
+ghost use Rattle.sframe_test.specs.Repeated.{repeated};
 use crate::judge::MAX_BYTES;
 use crate::judge::NN;
 use crate::judge::key_taken;
@@ -34,6 +36,41 @@ pub extern "C" fn sframe_test_aes(key: &[u8], block: &[u8], out: &mut [u8]) -> u
     }
     let ctx = aes::expand(key);
     aes::encrypt_block(&ctx, block, out);
+    0
+}
+
+// Encrypts the block in out, 16 bytes, n times over.
+fn repeat(ctx: &aes::Context, n: u32, out: &mut [u8])
+    requires { ⌜ Ready (now ctx) ⌝ }
+    requires { ⌜ length (now out) ≡ blockSize ⌝ }
+    ensures { λ _. ⌜ now (out .exit) ≡ repeated (encrypt (keyOf (now (ctx .entry)))) n (now (out .entry)) ⌝ }
+{
+    let mut i = 0;
+    while i < n {
+        let s = aes::load(out);
+        let t = aes::encrypt(ctx, s);
+        aes::store(out, t);
+        i += 1;
+    }
+}
+
+// AES encryption of a block n times over, on one context: for n large, the time of the block alone.
+#[no_mangle]
+pub extern "C" fn sframe_test_aes_repeat(key: &[u8], block: &[u8], n: u32, out: &mut [u8]) -> u32
+    ensures { λ r. ⌜ Judged 0 (AesRepeatTakes (now (key .entry)) (now (block .entry)) (now (out .entry))) (now (out .exit) ≡ repeated (encrypt (now (key .entry))) n (now (block .entry))) (now (out .exit) ≡ now (out .entry)) r ⌝ }
+{
+    if !key_taken(key) {
+        return 1;
+    }
+    if block.len() != 16 {
+        return 1;
+    }
+    if out.len() != 16 {
+        return 1;
+    }
+    let ctx = aes::expand(key);
+    octets::copy(out, block);
+    repeat(&ctx, n, out);
     0
 }
 

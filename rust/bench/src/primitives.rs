@@ -6,6 +6,9 @@ use reference::aes::{Aes, BLOCK};
 use reference::sha2::{Sha256, Sha512};
 use reference::suites::{Suite, SUITES};
 use std::hint::black_box;
+use std::path::{Path, PathBuf};
+use std::process::ExitCode;
+use std::{env, fs, io};
 use testkit::Generator;
 
 /// A frame of the usual size.
@@ -13,15 +16,53 @@ const FRAME: usize = 1_200;
 /// The longest frame.
 const LONGEST: usize = 32_768;
 
-fn main() {
+/// How many blocks the time of the block alone is taken over.
+const BLOCKS: u32 = 1_000;
+
+/// Takes the folder that the table of blocks is written to as a CSV file.
+fn main() -> ExitCode {
+    let folder = match env::args_os().nth(1) {
+        Some(folder) => PathBuf::from(folder),
+        None => Path::new(env!("CARGO_MANIFEST_DIR")).with_file_name("target/bench"),
+    };
+    match run(&folder) {
+        Ok(()) => ExitCode::SUCCESS,
+        Err(error) => {
+            eprintln!("bench-primitives: {}: {error}", folder.display());
+            ExitCode::FAILURE
+        }
+    }
+}
+
+fn run(folder: &Path) -> io::Result<()> {
     print_method();
     let mut generator = Generator::new(0x6265_6e63_6800_0001);
     hashes(&generator.bytes(LONGEST));
+    let mut rows = String::from("cipher,what,layer ns,second program ns\n");
     for key_length in [16, 32] {
         let key = generator.bytes(key_length);
+        rows += &blocks(&key);
         ciphers(&key, &generator.array(), &generator.bytes(FRAME));
     }
     suites(&mut generator);
+    fs::create_dir_all(folder)?;
+    fs::write(folder.join("blocks.csv"), rows)?;
+    println!("\nblocks.csv is in {}", folder.display());
+    Ok(())
+}
+
+/// One block, with the key set-up and on a ready key schedule, as rows of CSV.
+fn blocks(key: &[u8]) -> String {
+    let name = format!("AES-{}", 8 * key.len());
+    print_heading(&format!("{name}, one block"));
+    let with_set_up = block(key);
+    print_time("block with key set-up", with_set_up);
+    let alone = block_alone(key);
+    print_time("block alone", alone);
+    let row = |what: &str, times: Times| {
+        format!("{name},{what},{:.1},{:.1}\n", times.ours, times.reference)
+    };
+    row("block with key set-up", with_set_up) + &row("block alone", alone)
 }
 
 fn hashes(message: &[u8]) {
@@ -57,7 +98,6 @@ fn ciphers(key: &[u8], nonce: &[u8; 12], text: &[u8]) {
     print_heading(&format!("AES-{}, key set-up included", 8 * key.len()));
     let name = |what: &str| format!("{what}, {} bytes", text.len());
 
-    print_time("one block", block(key));
     let blocks = text.len() / BLOCK - 1;
     let times = counter_mode(key, nonce, &text[..BLOCK]);
     let longer = counter_mode(key, nonce, &text[..BLOCK + BLOCK * blocks]);
@@ -83,6 +123,32 @@ fn block(key: &[u8]) -> Times {
             black_box(Aes::new(black_box(key)).encrypt(&input));
         },
     )
+}
+
+/// A block encrypted many times over, less one encrypted once: the set-up falls
+/// out.
+fn block_alone(key: &[u8]) -> Times {
+    let times = repeated_block(key, 1);
+    times.step(repeated_block(key, 1 + BLOCKS), BLOCKS as usize)
+}
+
+fn repeated_block(key: &[u8], n: u32) -> Times {
+    let input = [0; BLOCK];
+    let mut out = input;
+    let mut expected = input;
+    let times = measure(
+        || assert!(primitives::aes_repeat(black_box(key), &input, n, &mut out)),
+        || {
+            let cipher = Aes::new(black_box(key));
+            expected = input;
+            for _ in 0..n {
+                expected = cipher.encrypt(&expected);
+            }
+            black_box(&expected);
+        },
+    );
+    assert_eq!(out, expected);
+    times
 }
 
 fn counter_mode(key: &[u8], nonce: &[u8; 12], text: &[u8]) -> Times {

@@ -111,6 +111,17 @@ extern "C" {
         out_len: usize,
     ) -> u32;
 
+    /// AES encryption of one block `n` times over, to an output of 16 bytes.
+    pub fn sframe_test_aes_repeat(
+        key: *const u8,
+        key_len: usize,
+        block: *const u8,
+        block_len: usize,
+        n: u32,
+        out: *mut u8,
+        out_len: usize,
+    ) -> u32;
+
     /// Counter mode from block `count` on.
     pub fn sframe_test_ctr(
         key: *const u8,

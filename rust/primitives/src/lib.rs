@@ -99,6 +99,24 @@ pub fn aes(key: &[u8], block: &[u8], out: &mut [u8]) -> bool {
     })
 }
 
+/// AES encryption of one block `n` times over, on one key schedule. `out` has
+/// 16 bytes.
+#[must_use]
+pub fn aes_repeat(key: &[u8], block: &[u8], n: u32, out: &mut [u8]) -> bool {
+    // SAFETY: as in `hash`.
+    done(unsafe {
+        ffi::sframe_test_aes_repeat(
+            key.as_ptr(),
+            key.len(),
+            block.as_ptr(),
+            block.len(),
+            n,
+            out.as_mut_ptr(),
+            out.len(),
+        )
+    })
+}
+
 /// `input` xor the key stream of `nonce` from block `count` on.
 #[must_use]
 pub fn ctr(key: &[u8], nonce: &[u8], count: u32, input: &[u8], out: &mut [u8]) -> bool {

@@ -1,6 +1,6 @@
 //! AES, counter mode and GCM beside the reference's.
 
-use primitives::{aes, ctr, Gcm};
+use primitives::{aes, aes_repeat, ctr, Gcm};
 use reference::aes::Aes;
 use testkit::{check_output, check_refused, Generator};
 
@@ -15,6 +15,23 @@ fn random_blocks() {
             let block = generator.array();
             let encrypted = Aes::new(&key).encrypt(&block);
             check_output(&encrypted, |room| aes(&key, &block, room));
+        }
+    }
+}
+
+#[test]
+fn blocks_encrypted_many_times_over() {
+    let mut generator = Generator::new(0x6369_7068_6572_0006);
+    for key_length in KEY_LENGTHS {
+        let key = generator.bytes(key_length);
+        let block = generator.array();
+        let cipher = Aes::new(&key);
+        let mut expected = block;
+        for n in 0..=1_000 {
+            let mut out = [0; 16];
+            assert!(aes_repeat(&key, &block, n, &mut out));
+            assert_eq!(out, expected, "{n} times");
+            expected = cipher.encrypt(&expected);
         }
     }
 }
@@ -127,6 +144,7 @@ fn wrong_sizes_are_refused() {
         let wrong = &bytes[..length];
         if !KEY_LENGTHS.contains(&length) {
             check_refused(64, |room| aes(wrong, block, room));
+            check_refused(16, |room| aes_repeat(wrong, block, 1, room));
             check_refused_pair(wrong, nonce);
         }
         if length != nonce.len() {
@@ -134,6 +152,8 @@ fn wrong_sizes_are_refused() {
         }
         if length != block.len() {
             check_refused(64, |room| aes(key, wrong, room));
+            check_refused(16, |room| aes_repeat(key, wrong, 1, room));
+            check_refused(length, |room| aes_repeat(key, block, 1, room));
         }
     }
 }
