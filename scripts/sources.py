@@ -222,6 +222,7 @@ class Function:
         self.name = "::".join((*inside[1], match.group(3)))             # within its module, as `FrameReader::new`
         self.path = "::".join((crate, *inside[0], *inside[1], match.group(3)))
         self.signature, self.clauses, self.body = signature, clauses, body
+        self.start, self.stop = 0, 0                                    # where it stands in its file, blanked as `plain_rt` does
 
 
 def _closing(text, at):
@@ -267,6 +268,7 @@ def functions(crate):
             body = text[start:_closing(text, start)] if start >= 0 else ""
             owner = [name for start, stop, name in blocks if start < match.start() < stop]
             found.append(Function(crate, (inside, owner), match, file, signature, clauses, body))
+            found[-1].start, found[-1].stop = match.start(), start + len(body)
     return found
 
 
@@ -295,3 +297,38 @@ def without_contracts(text):
         out.append(text[at:match.start()])
         at = _closing(text, match.end() - 1)
     return "".join(out) + text[at:]
+
+
+class Program:
+    """A wrong program: CRATE/LABEL, the .edit file that has it, and its replacements, each (file, old text, new text)."""
+
+    def __init__(self, crate, label, file):
+        self.crate, self.label, self.file = crate, label, file
+        self.name, self.parts, self.grouped = f"{crate}/{label}", [], False
+
+
+def programs(crate, file):
+    """The wrong programs of an edit. Each begins with a line `program: LABEL`; with no such line the whole edit is one, and the
+    file's name is its label. What stands on other lines than `file:`, `old:` and `new:` is a comment, as for `rt`."""
+    found, where, old = [Program(crate, file.stem, file)], "", ""
+    for line in file.read_text().splitlines():
+        if line.startswith("program: "):
+            if not found[-1].parts and not found[-1].grouped:
+                found.pop()
+            found.append(Program(crate, line[9:].strip(), file))
+            found[-1].grouped = True
+        elif line.startswith("file: "):
+            where = line[6:]
+        elif line.startswith("old: "):
+            old = line[5:]
+        elif line.startswith("new:"):
+            found[-1].parts.append((where, old, line[4:].removeprefix(" ")))
+            old = ""
+    return found
+
+
+def all_programs():
+    """Every wrong program, in the order of crates.txt."""
+    for crate in crates():
+        for file in sorted((CRATES / crate / "must-fail").glob("*.edit")):
+            yield from programs(crate, file)

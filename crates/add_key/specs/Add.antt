@@ -11,12 +11,12 @@ use Rattle.answers.specs.Answers.{storeInvalid, suiteUnknown, baseKeySize, kidH
 use Rattle.answers.specs.Limits.{baseKeyLeast, baseKeyMost}
 use Rattle.store.specs.Calls.{stored}
 use Rattle.store.specs.Cipher.{Cipher}
-use Rattle.store.specs.Record.{KeyRecord, sending, receiving, isEmpty}
+use Rattle.key_record.specs.Record.{KeyRecord, sending, receiving, isEmpty}
 use Rattle.store.specs.Store.{encodeAll, records, sound}
-use Rattle.store.specs.Suites.{isSuite}
+use Rattle.key_record.specs.Suites.{isSuite}
 use Rattle.store.specs.Table.{get, fill, full}
-use Rattle.store.specs.declared.Role.{Role}
-use Rattle.store.specs.declared.Role.the-variants.{Sending, Receiving}
+use Rattle.key_record.specs.declared.Role.{Role}
+use Rattle.key_record.specs.declared.Role.the-variants.{Sending, Receiving}
 
 -- role and suite are what the key is to be added for, held is the record that holds the KID, base the length of the base key
 unfoldable pub addCauses : (valid : Bool) (role : Role) (suite base : ℕ) (held : KeyRecord) (rs : List KeyRecord) → List Cause

@@ -11,8 +11,8 @@ use answers::STORE_FULL;
 use answers::STORE_INVALID;
 use answers::SUITE_UNKNOWN;
 use header::Kid;
+use key_record::Role;
 use store::Place;
-use store::Role;
 use suites::sizes::Found;
 
 // Adds a key: the lowest-numbered empty record holds what the suite derives from the base key for a KID.

@@ -7,7 +7,7 @@ use Prim.Native.Nat.{ℕ, _+_, _^_, _<_, _≤_}
 use lib.ListN.{length}
 use Rattle.octets.specs.Octets.{Octets}
 use Rattle.store.specs.Cipher.{Cipher, plain}
-use Rattle.store.specs.Suites.{isSuite, keySize, tagSize, saltSize}
+use Rattle.key_record.specs.Suites.{isSuite, keySize, tagSize, saltSize}
 
 -- A suite's number, key, nonce and associated data as encryption and decryption are given them.
 pub record Usable (suite : ℕ) (key nonce aad : List ℕ) : Type 0 where

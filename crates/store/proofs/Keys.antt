@@ -9,19 +9,19 @@ use borrow.Author.Tests.{eq-eqb, not-false}
 use Rattle.octets.specs.Octets.{Octets}
 use Rattle.answers.specs.Answers.{storeInvalid, _if_, Outcome}
 use Rattle.store.specs.Calls.{stored, make, removed, removeCauses, removeAt, remove}
-use Rattle.store.specs.inner.Rows.{kept}
+use Rattle.key_record.specs.inner.Rows.{kept}
 use Rattle.store.specs.Cipher.{Cipher}
-use Rattle.store.specs.Layout.{recordSize, encode}
-use Rattle.store.specs.Record.{SendingKey, ReceivingKey, KeyRecord, empty, sending, receiving, retired, isEmpty}
+use Rattle.key_record.specs.Layout.{recordSize, encode}
+use Rattle.key_record.specs.Record.{SendingKey, ReceivingKey, KeyRecord, empty, sending, receiving, retired, isEmpty, holds}
 use Rattle.store.specs.Store.{lengthRight, encodeAll}
-use Rattle.store.specs.Table.{holds, get, put, clear, fill, apart}
+use Rattle.store.specs.Table.{get, put, clear, fill, apart}
 use Rattle.answers.proofs.Basics.{Settled, success, refusal, settle}
 use Rattle.store.proofs.CipherLaws.{Laws}
-use Rattle.store.proofs.Codec.{Secret, Fit}
+use Rattle.key_record.proofs.Codec.{Secret, Fit}
 use Rattle.store.proofs.Stores.{AllFit, Table, length-right, Stored, stored-sound, stored-records, Change, put-change, clear-change, fill-change, get-fit}
 use Rattle.store.proofs.Tables.{get-holds, empty-is}
-use Rattle.store.specs.declared.Role.{Role}
-use Rattle.store.specs.declared.Role.the-variants.{Sending, Receiving}
+use Rattle.key_record.specs.declared.Role.{Role}
+use Rattle.key_record.specs.declared.Role.the-variants.{Sending, Receiving}
 
 -- ---- Make
 

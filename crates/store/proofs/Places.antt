@@ -9,11 +9,11 @@ use lib.Seq.{drop-drop}
 use borrow.Rule.Slice.PartMut.{putMid}
 use Rattle.octets.specs.Octets.{Octets, both}
 use Rattle.answers.proofs.Basics.{both-true, told-true}
-use Rattle.store.specs.Layout.{recordSize, encode, decode, obeys}
-use Rattle.store.specs.Record.{KeyRecord, empty}
+use Rattle.key_record.specs.Layout.{recordSize, encode, decode, obeys}
+use Rattle.key_record.specs.Record.{KeyRecord, empty}
 use Rattle.store.specs.Store.{lengthRight, encodeAll, decodeAll, allObey, records, sound}
 use Rattle.store.specs.Table.{apart, FoundIn, FreeIn}
-use Rattle.store.specs.inner.Rows.{Whole, Within, RowOf}
+use Rattle.store.specs.inner.Places.{Whole, Within, RowOf}
 use Rattle.store.specs.declared.Place.{Place}
 use Rattle.store.specs.declared.Place.the-variants.{At}
 use Rattle.store.proofs.Stores.{Stored, sound-stored, stored-length, encode-at, row-changed}

@@ -9,15 +9,15 @@ use Rattle.octets.specs.Octets.{Octets}
 use Rattle.answers.specs.Answers.{done, storeInvalid, kidMissing, roleRefused, first, Outcome, settled}
 use Rattle.answers.proofs.Basics.{told-false, told-true}
 use Rattle.store.specs.Calls.{stored, make, removed, removeCauses, removeAt, remove}
-use Rattle.store.specs.Record.{KeyRecord, empty, sending, receiving, retired, isSending}
+use Rattle.key_record.specs.Record.{KeyRecord, empty, sending, receiving, retired, isSending, holds}
 use Rattle.store.specs.Store.{lengthRight, encodeAll, records, sound}
-use Rattle.store.specs.Table.{holds, get, apart, FoundIn}
-use Rattle.store.specs.inner.Rows.{kindOf, kept}
-use Rattle.store.specs.declared.Kind.{Kind}
-use Rattle.store.specs.declared.Kind.the-variants.{Empty, Sender, Receiver, Retired}
+use Rattle.store.specs.Table.{get, apart, FoundIn}
+use Rattle.key_record.specs.inner.Rows.{kindOf, kept}
+use Rattle.key_record.specs.declared.Kind.{Kind}
+use Rattle.key_record.specs.declared.Kind.the-variants.{Empty, Sender, Receiver, Retired}
 use Rattle.store.specs.declared.Place.{Place}
 use Rattle.store.specs.declared.Place.the-variants.{At, Nowhere}
-use Rattle.store.proofs.KindLaws.{kind-sends}
+use Rattle.key_record.proofs.KindLaws.{kind-sends}
 use Rattle.store.proofs.Stores.{sound-stored}
 use Rattle.store.proofs.Tables.{clear-at, put-at}
 

@@ -11,12 +11,12 @@ use borrow.Rule.Slice.PartMut.{putMid}
 use borrow.Author.Tests.{leb-true, le-leb, eq-eqb, eqb-true}
 use Rattle.octets.specs.Octets.{Octets, both}
 use Rattle.octets.proofs.Laws.{octets-append, octets-take, octets-drop}
-use Rattle.store.specs.Layout.{recordSize, encode, decode, obeys}
-use Rattle.store.specs.Record.{KeyRecord, empty, isEmpty}
+use Rattle.key_record.specs.Layout.{recordSize, encode, decode, obeys}
+use Rattle.key_record.specs.Record.{KeyRecord, empty, isEmpty, holds}
 use Rattle.store.specs.Store.{maxRecords, lengthRight, encodeAll, decodeAll, allObey, records, sound}
-use Rattle.store.specs.Table.{holds, get, replace, put, clear, fill, full, apart}
+use Rattle.store.specs.Table.{get, replace, put, clear, fill, full, apart}
 use Rattle.answers.proofs.Basics.{Two, yes′, no′, two, both-true, both-and}
-use Rattle.store.proofs.Codec.{Fit, encode-length, encode-octets, decode-encode, obeys-fits, fits-obeys}
+use Rattle.key_record.proofs.Codec.{Fit, encode-length, encode-octets, decode-encode, obeys-fits, fits-obeys}
 use Rattle.store.proofs.Tables.{replace-length, put-same, put-other, put-apart, clear-same, clear-other, clear-apart, fill-same, fill-other, fill-apart}
 
 abbrev pub AllFit : List KeyRecord → Type 0

@@ -6,8 +6,9 @@ use Prim.Native.Nat.{ℕ, zero, suc}
 use native.Mathlib.Omega.{arith}
 use lib.ListN.{length, getD, set}
 use borrow.Author.Tests.{eq-eqb, ne-eqb, eqb-true}
-use Rattle.store.specs.Record.{KeyRecord, empty, sending, receiving, retired, isEmpty}
-use Rattle.store.specs.Table.{holds, get, replace, put, clear, fill, full, alone, apart, FreeIn}
+use Rattle.key_record.specs.Record.{KeyRecord, empty, sending, receiving, retired, isEmpty, holds}
+use Rattle.store.specs.Table.{get, replace, put, clear, fill, full, alone, apart, FreeIn}
+use Rattle.key_record.proofs.KindLaws.{holds-some}
 use Rattle.answers.proofs.Basics.{Two, yes′, no′, two, both-true, both-and}
 use Rattle.store.specs.declared.Place.the-variants.{At}
 
@@ -38,13 +39,6 @@ holds-other kid k empty h d = refl
 holds-other kid k (sending r) h d = ne-eqb (r .kid) k (λ e. d (sym e ∙ eqb-true (r .kid) kid h))
 holds-other kid k (receiving r) h d = ne-eqb (r .kid) k (λ e. d (sym e ∙ eqb-true (r .kid) kid h))
 holds-other kid k (retired r) h d = ne-eqb (r .kid) k (λ e. d (sym e ∙ eqb-true (r .kid) kid h))
-
-pub holds-some : (kid : ℕ) (r : KeyRecord) → holds kid r ≡ true → isEmpty r ≡ false
-unfolding holds
-holds-some kid empty h = sym h
-holds-some kid (sending r) h = refl
-holds-some kid (receiving r) h = refl
-holds-some kid (retired r) h = refl
 
 holds-empty : (kid : ℕ) → holds kid empty ≡ false
 unfolding holds

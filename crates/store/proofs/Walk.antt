@@ -1,25 +1,23 @@
 -- Walks over the records of a store, one turn each, over plain variables. Assumes nothing.
 use mathlib.Core.Path.{_≡_, refl, sym, _∙_, ap, ap₂}
-use mathlib.Core.Bool.{Bool, true, false, not, false≢true}
+use mathlib.Core.Bool.{Bool, true, false, not}
 use mathlib.Core.List.{List, [], _∷_}
 use Prim.Native.Nat.{ℕ, zero, suc, _+_, _*_, _/_, _%_, _-_, _<_, _≤_}
-use native.Mathlib.Nat.{add-zero}
 use native.Mathlib.Omega.{arith}
-use lib.Dec.{leb, eqb}
+use lib.Dec.{eqb}
 use lib.ListN.{length, getD, take, drop, length-drop}
-use lib.Seq.{drop-drop, getD-take, getD-drop}
-use borrow.Author.Tests.{le-leb, lt-leb, leb-true, eq-eqb, eqb-true, eqb-false}
-use Rattle.octets.specs.Octets.{number, both}
+use lib.Seq.{drop-drop}
+use borrow.Author.Tests.{le-leb, lt-leb, eqb-true, eqb-false}
+use Rattle.octets.specs.Octets.{both}
 use Rattle.octets.proofs.Laws.{part-rest}
-use Rattle.store.specs.inner.Judging.{holdingMark}
-use Rattle.store.specs.Layout.{recordSize, sendingMark, receivingMark, retiredMark, decode, obeys, markAt, kidAt}
-use Rattle.store.specs.Record.{KeyRecord, empty, isEmpty}
+use Rattle.key_record.specs.Layout.{recordSize, decode, obeys}
+use Rattle.key_record.specs.Record.{KeyRecord, empty, isEmpty, kidOf, holds}
 use Rattle.store.specs.Store.{lengthRight, decodeAll, allObey, records, sound, maxRecords}
-use Rattle.store.specs.Table.{holds, get, full, alone, apart, FoundIn, FreeIn}
-use Rattle.answers.proofs.Basics.{Two, yes′, no′, two, both-true, told-false, told-true}
-use Rattle.store.proofs.Codec.{read-sending, read-receiving, read-retired, read-empty}
+use Rattle.store.specs.Table.{get, full, alone, apart, FoundIn, FreeIn}
+use Rattle.answers.proofs.Basics.{Two, yes′, no′, two, told-false, told-true}
+use Rattle.key_record.proofs.KindLaws.{holds-some, holds-own}
 use Rattle.store.proofs.Stores.{length-right}
-use Rattle.store.proofs.Tables.{get-here, get-there, holds-some, alone-get}
+use Rattle.store.proofs.Tables.{get-here, get-there, empty-is, alone-get}
 use Rattle.store.specs.declared.Place.{Place}
 use Rattle.store.specs.declared.Place.the-variants.{At, Nowhere}
 
@@ -148,49 +146,20 @@ module _ (s : List ℕ) (at : ℕ) (past : length s ≤ at) where
   unfolding decodeAll apart
   apart-end i = sym (i ∙ ap (λ (k : ℕ). apart (decodeAll k (drop at s))) none-left)
 
--- ---- one record's KID
+-- ---- one record's KID among the others
 
-unheld : (l : List ℕ) → holdingMark (getD l markAt 0) ≡ false → decode l ≡ empty
-unfolding holdingMark
-unheld l h = read-empty l (not-it sendingMark refl) (not-it receivingMark refl) (not-it retiredMark refl)
-  where
-    not-it : (k : ℕ) → holdingMark k ≡ true → getD l markAt 0 ≡ k → ⊥
-    not-it k q e = false≢true (sym h ∙ ap holdingMark e ∙ q)
-
-held-kid : (l : List ℕ) (kid : ℕ) → holdingMark (getD l markAt 0) ≡ true → holds kid (decode l) ≡ eqb (number 8 (drop kidAt l)) kid
-unfolding holdingMark holds
-held-kid l kid h = by (two (eqb (getD l markAt 0) sendingMark)) (two (eqb (getD l markAt 0) receivingMark))
-  where
-    range : (sendingMark ≤ getD l markAt 0) × (getD l markAt 0 ≤ retiredMark)
-    range = let t = both-true (leb sendingMark (getD l markAt 0)) (leb (getD l markAt 0) retiredMark) h in (leb-true sendingMark (getD l markAt 0) (t .0), leb-true (getD l markAt 0) retiredMark (t .1))
-
-    by : Two (eqb (getD l markAt 0) sendingMark) → Two (eqb (getD l markAt 0) receivingMark) → holds kid (decode l) ≡ eqb (number 8 (drop kidAt l)) kid
-    by (yes′ a) b = ap (holds kid) (read-sending l (eqb-true (getD l markAt 0) sendingMark a))
-    by (no′ a) (yes′ b) = ap (holds kid) (read-receiving l (eqb-true (getD l markAt 0) receivingMark b))
-    by (no′ a) (no′ b) =
-        let m : getD l markAt 0 ≡ retiredMark = omega (arith, range .0, range .1, eqb-false (getD l markAt 0) sendingMark a, eqb-false (getD l markAt 0) receivingMark b) in
-        ap (holds kid) (read-retired l m)
-
-pub holds-unheld : (l : List ℕ) (kid : ℕ) (r : Bool) → r ≡ holdingMark (getD l markAt 0) → not r ≡ true → false ≡ holds kid (decode l)
-unfolding holds
-holds-unheld l kid r e t = sym (ap (holds kid) (unheld l (told-false r _ e t)))
-
-pub holds-held : (l : List ℕ) (kid v : ℕ) (r : Bool) → r ≡ holdingMark (getD l markAt 0) → not r ≡ false → v ≡ number 8 (take (length l - kidAt) (drop kidAt l)) → eqb v kid ≡ holds kid (decode l)
-holds-held l kid v r e t q = ap (λ (k : ℕ). eqb k kid) (q ∙ ap (number 8) (part-rest kidAt l)) ∙ sym (held-kid l kid (told-true r _ e t))
-
-pub alone-unheld : (l : List ℕ) (rs : List KeyRecord) (r : Bool) → r ≡ holdingMark (getD l markAt 0) → not r ≡ true → true ≡ alone (decode l) rs
+pub alone-unheld : (x : KeyRecord) (rs : List KeyRecord) (r : Bool) → r ≡ isEmpty x → r ≡ true → true ≡ alone x rs
 unfolding alone
-alone-unheld l rs r e t = sym (ap (λ (x : KeyRecord). alone x rs) (unheld l (told-false r _ e t)))
+alone-unheld x rs r e t = sym (ap (λ (y : KeyRecord). alone y rs) (empty-is x (sym e ∙ t)))
 
-module _ (l : List ℕ) (rs : List KeyRecord) (v : ℕ) (r : Bool) (e : r ≡ holdingMark (getD l markAt 0)) (t : not r ≡ false) (q : v ≡ number 8 (take (length l - kidAt) (drop kidAt l))) where
-  alone-is : alone (decode l) rs ≡ isEmpty (get v rs)
-  alone-is =
-      alone-get v (decode l) rs (held-kid l v (told-true r _ e t) ∙ eq-eqb (number 8 (drop kidAt l)) v (sym (q ∙ ap (number 8) (part-rest kidAt l))))
+module _ (x : KeyRecord) (rs : List KeyRecord) (v : ℕ) (r : Bool) (e : r ≡ isEmpty x) (t : r ≡ false) (q : v ≡ kidOf x) where
+  alone-is : alone x rs ≡ isEmpty (get v rs)
+  alone-is = alone-get v x rs (ap (λ (k : ℕ). holds k x) q ∙ holds-own x (sym e ∙ t))
 
-  pub alone-nowhere : (p : Place) → FoundIn p v rs → p ≡ Nowhere → true ≡ alone (decode l) rs
+  pub alone-nowhere : (p : Place) → FoundIn p v rs → p ≡ Nowhere → true ≡ alone x rs
   alone-nowhere p f w = let g : get v rs ≡ empty = rw w at f in sym (alone-is ∙ ap isEmpty g)
 
-  pub alone-found : (p : Place) (i : ℕ) → FoundIn p v rs → p ≡ At i → false ≡ alone (decode l) rs
+  pub alone-found : (p : Place) (i : ℕ) → FoundIn p v rs → p ≡ At i → false ≡ alone x rs
   alone-found p i f w =
       let g : FoundIn (At i) v rs = rw w at f in
       sym (alone-is ∙ ap isEmpty (g .1) ∙ holds-some v (getD rs i empty) (g .2))
@@ -222,32 +191,27 @@ module _ (s : List ℕ) (r : Bool) (e : r ≡ lengthRight (length s)) (t : not r
 abbrev pub NoneFree : List ℕ → ℕ → Type 0
 NoneFree s at = (j : ℕ) → j < at / recordSize → isEmpty (getD (decodeAll (length s / recordSize) s) j empty) ≡ false
 
-mark-held : (l : List ℕ) → holdingMark (getD l markAt 0) ≡ true → isEmpty (decode l) ≡ false
-mark-held l h = holds-some (number 8 (drop kidAt l)) (decode l) (held-kid l (number 8 (drop kidAt l)) h ∙ eq-eqb (number 8 (drop kidAt l)) (number 8 (drop kidAt l)) refl)
-
-module _ (s : List ℕ) (at : ℕ) (whole : length s % recordSize ≡ 0) (inside : at < length s) (even : at % recordSize ≡ 0) where
-  record-is : getD (decodeAll (length s / recordSize) s) (at / recordSize) empty ≡ decode (take recordSize (drop at s))
+module _ (s : List ℕ) (at end : ℕ) (whole : length s % recordSize ≡ 0) (inside : at < length s) (even : at % recordSize ≡ 0) (next : end ≡ at + recordSize) where
+  record-is : getD (decodeAll (length s / recordSize) s) (at / recordSize) empty ≡ decode (take (end - at) (drop at s))
   record-is =
       let low : at / recordSize < length s / recordSize = omega arith in
       let place : at / recordSize * recordSize ≡ at = omega arith in
-      decode-at (length s / recordSize) s (at / recordSize) low ∙ ap (λ (k : ℕ). decode (take recordSize (drop k s))) place
+      decode-at (length s / recordSize) s (at / recordSize) low ∙ ap (λ (k : ℕ). decode (take recordSize (drop k s))) place ∙ ap decode (sym (part-is s at end whole inside even next))
 
-  mark-at : getD (take recordSize (drop at s)) 0 0 ≡ getD s at 0
-  mark-at = getD-take recordSize (drop at s) 0 0 (omega arith) ∙ getD-drop at s 0 0 ∙ ap (λ (k : ℕ). getD s k 0) (add-zero at)
-
-  pub free-here : (r : Bool) → r ≡ holdingMark (getD s at 0) → not r ≡ true → NoneFree s at → FreeIn (At (at / recordSize)) (decodeAll (length s / recordSize) s)
+  pub free-here : (r : Bool) → r ≡ isEmpty (decode (take (end - at) (drop at s))) → r ≡ true → NoneFree s at → FreeIn (At (at / recordSize)) (decodeAll (length s / recordSize) s)
   free-here r e t n =
       let l = decode-all-length (length s / recordSize) s in
-      (omega arith, ap isEmpty (record-is ∙ unheld (take recordSize (drop at s)) (ap holdingMark mark-at ∙ told-false r _ e t)), n)
+      (omega arith, ap isEmpty record-is ∙ sym e ∙ t, n)
 
-  pub free-go : (r : Bool) → r ≡ holdingMark (getD s at 0) → not r ≡ false → NoneFree s at → NoneFree s (at + recordSize)
+  pub free-go : (r : Bool) → r ≡ isEmpty (decode (take (end - at) (drop at s))) → r ≡ false → NoneFree s at → NoneFree s end
   free-go r e t n j h = by (two (eqb j (at / recordSize)))
     where
       by : Two (eqb j (at / recordSize)) → isEmpty (getD (decodeAll (length s / recordSize) s) j empty) ≡ false
       by (yes′ q) =
           ap (λ (k : ℕ). isEmpty (getD (decodeAll (length s / recordSize) s) k empty)) (eqb-true j (at / recordSize) q)
           ∙ ap isEmpty record-is
-          ∙ mark-held (take recordSize (drop at s)) (ap holdingMark mark-at ∙ told-true r _ e t)
+          ∙ sym e
+          ∙ t
       by (no′ q) = n j (omega (arith, eqb-false j (at / recordSize) q))
 
 all-full : (rs : List KeyRecord) → ((j : ℕ) → j < length rs → isEmpty (getD rs j empty) ≡ false) → full rs ≡ true

@@ -9,12 +9,12 @@ use lib.ListN.{length, replicate}
 use Rattle.octets.specs.Octets.{both}
 use Rattle.answers.specs.Answers.{storeInvalid, suiteUnknown, baseKeySize, kidHeld, storeFull, kidMissing, roleRefused, Cause, _if_, first, Outcome, settled}
 use Rattle.store.specs.Cipher.{Cipher}
-use Rattle.store.specs.Record.{KeyRecord, empty, sending, receiving, retired, isEmpty, isRetired}
+use Rattle.key_record.specs.Record.{KeyRecord, empty, sending, receiving, retired, isEmpty, isRetired}
 use Rattle.store.specs.Store.{lengthRight, encodeAll, records, sound}
-use Rattle.store.specs.Suites.{isSuite}
+use Rattle.key_record.specs.Suites.{isSuite}
 use Rattle.store.specs.Table.{get, put, clear, fill, full}
-use Rattle.store.specs.declared.Role.{Role}
-use Rattle.store.specs.declared.Role.the-variants.{Sending, Receiving}
+use Rattle.key_record.specs.declared.Role.{Role}
+use Rattle.key_record.specs.declared.Role.the-variants.{Sending, Receiving}
 
 -- The outcome of a call that succeeds and has no room.
 abbrev pub stored : List ℕ → Outcome

@@ -1,9 +1,6 @@
 pub mod Calls
 pub mod Cipher
-pub mod Layout
-pub mod Record
 pub mod Sframe
 pub mod Store
-pub mod Suites
 pub mod Table
 pub mod inner

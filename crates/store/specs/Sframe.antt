@@ -5,7 +5,7 @@ use mathlib.Core.List.{List, []}
 use Prim.Native.Nat.{ℕ}
 use Rattle.store.specs.Cipher as Store
 use Rattle.store.specs.Cipher.{Cipher}
-use Rattle.store.specs.Suites.{withSuite}
+use Rattle.key_record.specs.Suites.{withSuite}
 use Rattle.suites.specs.Suites.{suiteOf}
 use Rattle.suites.specs.Derivation.{sframeKey, sframeSalt, nonce}
 use Rattle.suites.specs.Aead as Aead

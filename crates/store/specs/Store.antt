@@ -6,8 +6,8 @@ use Prim.Native.Nat.{ℕ, zero, suc, _*_, _/_, _%_}
 use lib.Dec.{leb, eqb}
 use lib.ListN.{length, take, drop}
 use Rattle.octets.specs.Octets.{both}
-use Rattle.store.specs.Layout.{recordSize, encode, decode, obeys}
-use Rattle.store.specs.Record.{KeyRecord}
+use Rattle.key_record.specs.Layout.{recordSize, encode, decode, obeys}
+use Rattle.key_record.specs.Record.{KeyRecord}
 use Rattle.store.specs.Table.{apart}
 
 -- A store has 1 to this many records.

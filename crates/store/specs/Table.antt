@@ -4,19 +4,11 @@ use mathlib.Core.Path.{_≡_}
 use mathlib.Core.Bool.{Bool, true, false}
 use mathlib.Core.List.{List, [], _∷_}
 use Prim.Native.Nat.{ℕ, _<_}
-use lib.Dec.{eqb}
 use lib.ListN.{length, getD}
 use Rattle.octets.specs.Octets.{pick, both}
-use Rattle.store.specs.Record.{KeyRecord, empty, sending, receiving, retired, isEmpty}
+use Rattle.key_record.specs.Record.{KeyRecord, empty, sending, receiving, retired, isEmpty, holds}
 use Rattle.store.specs.declared.Place.{Place}
 use Rattle.store.specs.declared.Place.the-variants.{At, Nowhere}
-
--- Whether a record is a non-empty one with that KID.
-unfoldable pub holds : ℕ → KeyRecord → Bool
-holds kid empty = false
-holds kid (sending r) = eqb (r .kid) kid
-holds kid (receiving r) = eqb (r .kid) kid
-holds kid (retired r) = eqb (r .kid) kid
 
 -- The record that holds a KID; the empty one where none does.
 unfoldable pub get : ℕ → List KeyRecord → KeyRecord

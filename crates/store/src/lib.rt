@@ -1,12 +1,14 @@
-// The key store: records of 80 bytes in bytes that the caller lends.
-pub mod judging;
-pub mod row;
-
+// The key store: records, one after the other, in bytes that the caller lends.
 use answers::DONE;
 use answers::KID_MISSING;
 use answers::ROLE_REFUSED;
 use answers::STORE_INVALID;
 use header::Kid;
+use key_record::Kind;
+use key_record::RECORD_SIZE;
+use key_record::Role;
+use key_record::judging;
+use key_record::row;
 use suites::sizes::Suite;
 ghost use mathlib.Core.Path.{_≡_};
 ghost use mathlib.Core.Bool.{true};
@@ -14,56 +16,14 @@ ghost use Prim.Native.Nat.{_<_, _≤_};
 ghost use lib.ListN.{length, getD, set};
 ghost use Rattle.answers.specs.Limits.{baseKeyMost};
 ghost use Rattle.store.specs.Calls.{make, remove};
-ghost use Rattle.store.specs.Layout.{recordSize, decode};
-ghost use Rattle.store.specs.Record.{ceiling, empty, isEmpty, isSending, counterOf, advanced};
+ghost use Rattle.key_record.specs.Layout.{recordSize, decode};
+ghost use Rattle.key_record.specs.Record.{ceiling, empty, isEmpty, isSending, counterOf, advanced};
 ghost use Rattle.store.specs.Store.{lengthRight, encodeAll, records, sound};
 ghost use Rattle.store.specs.Table.{alone, apart, FoundIn, FreeIn};
-ghost use Rattle.store.specs.inner.Rows.{Whole, rowsObey, Within, RowOf, fresh, kept};
-
-pub const RECORD_SIZE: usize = 80;
+ghost use Rattle.key_record.specs.inner.Rows.{fresh, kept};
+ghost use Rattle.store.specs.inner.Places.{Whole, rowsObey, Within, RowOf};
 
 pub const MAX_RECORDS: usize = 64;
-
-// Where the fields of a record stand.
-const MARK: usize = 0;
-
-const SUITE: usize = 1;
-
-const RESERVED: usize = 2;
-
-const KID: usize = 4;
-
-const COUNTER: usize = 12;
-
-const SALT: usize = 20;
-
-const KEY: usize = 32;
-
-// The mark of a record.
-const EMPTY: u8 = 0;
-
-const SENDING: u8 = 1;
-
-const RECEIVING: u8 = 2;
-
-const RETIRED: u8 = 3;
-
-// No counter reaches this.
-const CEILING: u64 = 0x100_0000_0000;
-
-// What a key is added for.
-pub enum Role {
-    Sending,
-    Receiving,
-}
-
-// What a record is.
-pub enum Kind {
-    Empty,
-    Sender,
-    Receiver,
-    Retired,
-}
 
 // Where a record stands: the number of the record, or nowhere.
 pub enum Place {
@@ -123,10 +83,11 @@ pub fn find_free(store: &[u8]) -> Place
 {
     let mut at = 0;
     while at < store.len() {
-        if !judging::is_held(store[at]) {
+        let end = at + RECORD_SIZE;
+        if row::is_empty(&store[at..end]) {
             return Place::At(at / RECORD_SIZE);
         }
-        at = at + RECORD_SIZE;
+        at = end;
     }
     Place::Nowhere
 }
@@ -136,11 +97,10 @@ fn alone_in(row: &[u8], rest: &[u8]) -> bool
     requires { ⌜ (length (now row) ≡ recordSize) × (Whole (now rest)) ⌝ }
     ensures { λ r. ⌜ r ≡ alone (decode (now (row .entry))) (records (now (rest .entry))) ⌝ }
 {
-    if !judging::is_held(row[MARK]) {
+    if row::is_empty(row) {
         return true;
     }
-    let kid = octets::read_be64(&row[KID..]);
-    let Place::At(place) = find(rest, Kid(kid)) else {
+    let Place::At(place) = find(rest, row::kid_of(row)) else {
         return true;
     };
     false

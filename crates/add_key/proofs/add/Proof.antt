@@ -4,11 +4,11 @@ use Prim.Native.Nat.{ℕ}
 use native.Mathlib.Omega.{arith}
 use lib.ListN.{set}
 use borrow.Author.Needs.{needs}
-use Rattle.store.specs.Record.{KeyRecord}
+use Rattle.key_record.specs.Record.{KeyRecord}
 use Rattle.store.specs.Store.{encodeAll, records}
 use Rattle.store.specs.Sframe.{sframe}
 use Rattle.store.proofs.Places.{tested-sound, tested-whole, free-within}
-use Rattle.store.proofs.Suites.{suite-named, suite-unnamed}
+use Rattle.key_record.proofs.Suites.{suite-named, suite-unnamed}
 use Rattle.suites.proofs.Laws.{number-is}
 use Rattle.add_key.proofs.Addition.{add-unsound, add-suite, add-short, add-long, add-held, add-full, add-done, added-told, free-empty}
 use Rattle.add_key.proofs.add.Statement.{statement}

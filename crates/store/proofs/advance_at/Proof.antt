@@ -3,8 +3,8 @@ use Prim.Native.Nat.{ℕ, _+_, _*_, _<_, _≤_}
 use native.Mathlib.Omega.{arith}
 use lib.ListN.{length}
 use borrow.Author.Needs.{needs}
-use Rattle.store.specs.Layout.{recordSize, encode, decode}
-use Rattle.store.specs.Record.{KeyRecord, isSending, counterOf, advanced}
+use Rattle.key_record.specs.Layout.{recordSize, encode, decode}
+use Rattle.key_record.specs.Record.{KeyRecord, isSending, counterOf, advanced}
 use Rattle.store.proofs.Places.{place-inside, place-row, place-changed}
 use Rattle.store.proofs.advance_at.Statement.{statement}
 use Rattle.store.proofs.advance_at.Tie as tie

@@ -3,7 +3,7 @@ use Prim.Native.Nat.{ℕ, _+_, _*_, _<_, _≤_}
 use native.Mathlib.Omega.{arith}
 use lib.ListN.{length}
 use borrow.Author.Needs.{needs}
-use Rattle.store.specs.Layout.{recordSize, encode, decode}
+use Rattle.key_record.specs.Layout.{recordSize, encode, decode}
 use Rattle.store.proofs.Tables.{empty-is}
 use Rattle.store.proofs.Places.{place-inside, place-bytes, place-changed}
 use Rattle.store.proofs.fill_at.Statement.{statement}

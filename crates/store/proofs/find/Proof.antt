@@ -6,7 +6,7 @@ use borrow.Author.Needs.{needs}
 use Rattle.store.proofs.Walk.{find-here, find-go, find-end, records-start}
 use Rattle.store.specs.Store.{decodeAll, records}
 use Rattle.store.specs.Table.{get}
-use Rattle.store.specs.Layout.{recordSize}
+use Rattle.key_record.specs.Layout.{recordSize}
 use Rattle.store.proofs.find.Statement.{statement}
 use Rattle.store.proofs.find.Tie as tie
 

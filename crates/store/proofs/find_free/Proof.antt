@@ -5,7 +5,7 @@ use lib.ListN.{length}
 use borrow.Author.Needs.{needs}
 use Rattle.store.specs.Store.{records}
 use Rattle.store.proofs.Walk.{NoneFree, free-here, free-go, free-end}
-use Rattle.store.specs.Layout.{recordSize}
+use Rattle.key_record.specs.Layout.{recordSize}
 use Rattle.store.proofs.find_free.Statement.{statement}
 use Rattle.store.proofs.find_free.Tie as tie
 
@@ -32,12 +32,12 @@ returns : tie.Need-returns Inv-loop μ-loop
 unfolding records
 returns c =
     let at-loop-head = to-loop-head-from-then1 c in
-    free-here (at-loop-head .before .before .args .store .now) (at-loop-head .loop .at) (at-loop-head .before .before .pre) (c .before .before .before .loop-test .taken) (at-loop-head .loop .inv .1) _ (c .before .is-held .ensures) (c .if1 .taken) (at-loop-head .loop .inv .2)
+    free-here (at-loop-head .before .before .args .store .now) (at-loop-head .loop .at) _ (at-loop-head .before .before .pre) (c .before .before .before .loop-test .taken) (at-loop-head .loop .inv .1) refl _ (c .before .is-empty .ensures) (c .if1 .taken) (at-loop-head .loop .inv .2)
 
 loop-again : tie.Need-loop-again Inv-loop μ-loop
 loop-again c =
     let at-loop-head = to-loop-head-from-else1 c in
-    (omega arith, omega arith, free-go (at-loop-head .before .before .args .store .now) (at-loop-head .loop .at) (at-loop-head .before .before .pre) (c .before .before .before .loop-test .taken) (at-loop-head .loop .inv .1) _ (c .before .is-held .ensures) (c .if1 .left) (at-loop-head .loop .inv .2))
+    (omega arith, omega arith, free-go (at-loop-head .before .before .args .store .now) (at-loop-head .loop .at) _ (at-loop-head .before .before .pre) (c .before .before .before .loop-test .taken) (at-loop-head .loop .inv .1) refl _ (c .before .is-empty .ensures) (c .if1 .left) (at-loop-head .loop .inv .2))
 
 returns-2 : tie.Need-returns-2 Inv-loop μ-loop
 unfolding records
@@ -51,9 +51,11 @@ find-free-spec =
     μ-loop
     loop-holds
     (λ c. search needs)
+    (λ c. search needs)
+    (λ c. search needs)
+    (λ c. search needs)
     (λ c κs. search needs)
     returns
-    (λ c. search needs)
     (λ c. search needs)
     loop-again
     returns-2)

@@ -6,7 +6,7 @@ use borrow.Author.Needs.{needs}
 use Rattle.store.proofs.Walk.{apart-stop, apart-go, apart-end, records-start}
 use Rattle.store.specs.Store.{decodeAll, records}
 use Rattle.store.specs.Table.{apart}
-use Rattle.store.specs.Layout.{recordSize}
+use Rattle.key_record.specs.Layout.{recordSize}
 use Rattle.store.proofs.kids_apart.Statement.{statement}
 use Rattle.store.proofs.kids_apart.Tie as tie
 

@@ -1,7 +1,8 @@
 use mathlib.Core.Path.{_≡_, refl, sym, _∙_, ap}
 use native.Mathlib.Omega.{arith}
 use borrow.Author.Needs.{needs}
-use Rattle.store.specs.inner.Rows.{Within, kindOf}
+use Rattle.key_record.specs.inner.Rows.{kindOf}
+use Rattle.store.specs.inner.Places.{Within}
 use Rattle.store.proofs.Places.{tested-sound, tested-whole, found-within}
 use Rattle.store.proofs.Removal.{remove-unsound, remove-missing, remove-empty, remove-retired, remove-receiving, sender-sends, remove-sending}
 use Rattle.store.proofs.remove.Statement.{statement}

@@ -5,7 +5,7 @@ use lib.ListN.{length, drop}
 use borrow.Author.Needs.{needs}
 use Rattle.store.proofs.Walk.{obey-stop, obey-go, obey-start, obey-end}
 use Rattle.store.specs.Store.{allObey}
-use Rattle.store.specs.Layout.{recordSize}
+use Rattle.key_record.specs.Layout.{recordSize}
 use Rattle.store.proofs.rows_obey.Statement.{statement}
 use Rattle.store.proofs.rows_obey.Tie as tie
 

@@ -1,0 +1,6 @@
+pub mod Codec
+mod Fields
+mod Judge
+pub mod KindLaws
+mod Rows
+pub mod Suites

@@ -1,0 +1,88 @@
+-- The layout: a record's form in bytes, and when bytes obey it. Only this file knows where a field stands.
+-- Assumes nothing.
+use mathlib.Core.Bool.{Bool, true}
+use mathlib.Core.List.{List, [], _∷_, _++_}
+use Prim.Native.Nat.{ℕ, _-_}
+use lib.Dec.{leb, eqb}
+use lib.ListN.{length, getD, take, drop, replicate}
+use Rattle.octets.specs.Octets.{number, bytes, same, pick, both}
+use Rattle.key_record.specs.Record.{ceiling, KeyRecord, empty, sending, receiving, retired}
+use Rattle.key_record.specs.Suites.{isSuite, keySize, saltSize}
+
+-- ---- sizes
+
+abbrev pub recordSize : ℕ
+recordSize = 80
+
+-- where its fields stand: the mark, the suite, the two reserved bytes, the KID, the next counter, the salt and the key
+abbrev pub markAt : ℕ
+markAt = 0
+
+abbrev pub suiteAt : ℕ
+suiteAt = 1
+
+abbrev pub reservedAt : ℕ
+reservedAt = 2
+
+abbrev pub kidAt : ℕ
+kidAt = 4
+
+abbrev pub counterAt : ℕ
+counterAt = 12
+
+abbrev pub saltAt : ℕ
+saltAt = 20
+
+abbrev pub keyAt : ℕ
+keyAt = 32
+
+-- what a record has for a key, which is the longest Nk
+abbrev pub keyRoom : ℕ
+keyRoom = 48
+
+-- ---- the form in bytes
+
+-- the mark
+abbrev pub sendingMark : ℕ
+sendingMark = 1
+
+abbrev pub receivingMark : ℕ
+receivingMark = 2
+
+abbrev pub retiredMark : ℕ
+retiredMark = 3
+
+-- Mark, suite, two zeros, KID, next counter, salt, key, zeros up to the record's end.
+unfoldable pub row : (mark suite kid counter : ℕ) (salt key : List ℕ) → List ℕ
+row mark suite kid counter salt key =
+    (mark ∷ suite ∷ 0 ∷ 0 ∷ []) ++ (bytes 8 kid ++ (bytes 8 counter ++ (salt ++ (key ++ replicate (keyRoom - length key) 0))))
+
+unfoldable pub encode : KeyRecord → List ℕ
+encode empty = replicate recordSize 0
+encode (sending r) = row sendingMark (r .suite) (r .kid) (r .counter) (r .salt) (r .key)
+encode (receiving r) = row receivingMark (r .suite) (r .kid) 0 (r .salt) (r .key)
+encode (retired r) = row retiredMark (r .suite) (r .kid) (r .counter) (replicate saltSize 0) []
+
+-- A record's bytes as a record; bytes with no mark that is known count as empty.
+unfoldable pub decode : List ℕ → KeyRecord
+decode l =
+    let mark = getD l markAt 0 in
+    let suite = getD l suiteAt 0 in
+    let kid = number 8 (drop kidAt l) in
+    let counter = number 8 (drop counterAt l) in
+    let salt = take saltSize (drop saltAt l) in
+    let key = take (keySize suite) (drop keyAt l) in
+    pick (eqb mark sendingMark) (sending (record { suite = suite; kid = kid; counter = counter; salt = salt; key = key }))
+    (pick (eqb mark receivingMark) (receiving (record { suite = suite; kid = kid; salt = salt; key = key }))
+    (pick (eqb mark retiredMark) (retired (record { suite = suite; kid = kid; counter = counter })) empty))
+
+-- A record's values are in range.
+unfoldable pub fits : KeyRecord → Bool
+fits empty = true
+fits (sending r) = both (isSuite (r .suite)) (leb (r .counter) ceiling)
+fits (receiving r) = isSuite (r .suite)
+fits (retired r) = both (isSuite (r .suite)) (leb (r .counter) ceiling)
+
+-- A record's bytes obey their row: they are those of the record they are read as, and its values are in range.
+unfoldable pub obeys : List ℕ → Bool
+obeys l = both (same (encode (decode l)) l) (fits (decode l))

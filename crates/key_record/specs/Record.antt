@@ -1,0 +1,111 @@
+-- The records of the key store as values, what each gives, and how it changes. Where its bytes stand is Layout.antt's.
+-- Assumes nothing.
+use mathlib.Core.Bool.{Bool, true, false}
+use mathlib.Core.List.{List, []}
+use Prim.Native.Nat.{ℕ, _+_, _^_}
+use lib.Dec.{eqb}
+
+-- no counter reaches this
+abbrev pub ceiling : ℕ
+ceiling = 2 ^ 40
+
+-- ---- records
+
+-- A key for sending, with the counter of the next frame.
+pub record SendingKey : Type 0 where
+  pub suite : ℕ
+  pub kid : ℕ
+  pub counter : ℕ
+  pub salt : List ℕ
+  pub key : List ℕ
+
+-- A key for receiving.
+pub record ReceivingKey : Type 0 where
+  pub suite : ℕ
+  pub kid : ℕ
+  pub salt : List ℕ
+  pub key : List ℕ
+
+-- What is kept of a key for sending that was removed.
+pub record RetiredKey : Type 0 where
+  pub suite : ℕ
+  pub kid : ℕ
+  pub counter : ℕ
+
+pub data KeyRecord : Type 0 where
+  empty : KeyRecord
+  sending : SendingKey → KeyRecord
+  receiving : ReceivingKey → KeyRecord
+  retired : RetiredKey → KeyRecord
+
+-- ---- what a record gives
+
+abbrev pub isEmpty : KeyRecord → Bool
+isEmpty empty = true
+isEmpty (sending r) = false
+isEmpty (receiving r) = false
+isEmpty (retired r) = false
+
+abbrev pub isSending : KeyRecord → Bool
+isSending empty = false
+isSending (sending r) = true
+isSending (receiving r) = false
+isSending (retired r) = false
+
+abbrev pub isReceiving : KeyRecord → Bool
+isReceiving empty = false
+isReceiving (sending r) = false
+isReceiving (receiving r) = true
+isReceiving (retired r) = false
+
+abbrev pub isRetired : KeyRecord → Bool
+isRetired empty = false
+isRetired (sending r) = false
+isRetired (receiving r) = false
+isRetired (retired r) = true
+
+-- The KID; 0 where there is none.
+abbrev pub kidOf : KeyRecord → ℕ
+kidOf empty = 0
+kidOf (sending r) = r .kid
+kidOf (receiving r) = r .kid
+kidOf (retired r) = r .kid
+
+-- Whether a record is a non-empty one with that KID.
+unfoldable pub holds : ℕ → KeyRecord → Bool
+holds kid empty = false
+holds kid (sending r) = eqb (r .kid) kid
+holds kid (receiving r) = eqb (r .kid) kid
+holds kid (retired r) = eqb (r .kid) kid
+
+abbrev pub suiteOf : KeyRecord → ℕ
+suiteOf empty = 0
+suiteOf (sending r) = r .suite
+suiteOf (receiving r) = r .suite
+suiteOf (retired r) = r .suite
+
+abbrev pub saltOf : KeyRecord → List ℕ
+saltOf empty = []
+saltOf (sending r) = r .salt
+saltOf (receiving r) = r .salt
+saltOf (retired r) = []
+
+abbrev pub keyOf : KeyRecord → List ℕ
+keyOf empty = []
+keyOf (sending r) = r .key
+keyOf (receiving r) = r .key
+keyOf (retired r) = []
+
+-- The next counter; 0 where there is none.
+abbrev pub counterOf : KeyRecord → ℕ
+counterOf empty = 0
+counterOf (sending r) = r .counter
+counterOf (receiving r) = 0
+counterOf (retired r) = r .counter
+
+-- The record once its next counter is taken.
+unfoldable pub advanced : KeyRecord → KeyRecord
+advanced empty = empty
+advanced (sending r) = sending (record { suite = r .suite; kid = r .kid; counter = r .counter + 1; salt = r .salt; key = r .key })
+advanced (receiving r) = receiving r
+advanced (retired r) = retired r

@@ -1,0 +1,3 @@
+-- Cited by inner contracts alone: no promise to a caller rests on it.
+pub mod Judging
+pub mod Rows

@@ -1,0 +1,46 @@
+// One record of the key store: 80 bytes, and what they are as a record. Nobody outside this crate knows where a field stands.
+pub mod judging;
+pub mod row;
+
+pub const RECORD_SIZE: usize = 80;
+
+// Where the fields of a record stand.
+const MARK: usize = 0;
+
+const SUITE: usize = 1;
+
+const RESERVED: usize = 2;
+
+const KID: usize = 4;
+
+const COUNTER: usize = 12;
+
+const SALT: usize = 20;
+
+const KEY: usize = 32;
+
+// The mark of a record.
+const EMPTY: u8 = 0;
+
+const SENDING: u8 = 1;
+
+const RECEIVING: u8 = 2;
+
+const RETIRED: u8 = 3;
+
+// No counter reaches this.
+const CEILING: u64 = 0x100_0000_0000;
+
+// What a key is added for.
+pub enum Role {
+    Sending,
+    Receiving,
+}
+
+// What a record is.
+pub enum Kind {
+    Empty,
+    Sender,
+    Receiver,
+    Retired,
+}

@@ -1,0 +1,195 @@
+// One record's bytes, read and written as the record that they are.
+ghost use mathlib.Core.Path.{_≡_};
+ghost use mathlib.Core.Bool.{true, false, not};
+ghost use mathlib.Core.List.{[]};
+ghost use Prim.Native.Nat.{_≤_, _<_};
+ghost use lib.Dec.{eqb};
+ghost use lib.ListN.{length, replicate};
+ghost use Rattle.answers.specs.Limits.{baseKeyMost};
+ghost use Rattle.key_record.specs.Layout.{recordSize, encode, decode};
+ghost use Rattle.key_record.specs.Record.{ceiling, empty, isEmpty, isSending, isReceiving, kidOf, holds, suiteOf, saltOf, keyOf, counterOf, advanced};
+ghost use Rattle.key_record.specs.Suites.{saltSize};
+ghost use Rattle.key_record.specs.inner.Judging.{newRow};
+ghost use Rattle.key_record.specs.inner.Rows.{Row, Numbered, kindOf, hasKey, markFor, fresh, kept};
+ghost use Rattle.suites.specs.Suites.{Nk};
+use crate::CEILING;
+use crate::COUNTER;
+use crate::KEY;
+use crate::KID;
+use crate::Kind;
+use crate::MARK;
+use crate::RECEIVING;
+use crate::RETIRED;
+use crate::Role;
+use crate::SALT;
+use crate::SENDING;
+use crate::SUITE;
+use crate::judging::is_held;
+use header::Ctr;
+use header::Kid;
+use suites::sizes::Found;
+use suites::sizes::Suite;
+
+// What a record is.
+pub fn kind_of(row: &[u8]) -> Kind
+    requires { ⌜ length (now row) ≡ recordSize ⌝ }
+    ensures { λ r. ⌜ r ≡ kindOf (decode (now (row .entry))) ⌝ }
+{
+    let mark = row[MARK];
+    if mark == SENDING {
+        return Kind::Sender;
+    }
+    if mark == RECEIVING {
+        return Kind::Receiver;
+    }
+    if mark == RETIRED {
+        return Kind::Retired;
+    }
+    Kind::Empty
+}
+
+// Whether a record is empty.
+pub fn is_empty(row: &[u8]) -> bool
+    requires { ⌜ length (now row) ≡ recordSize ⌝ }
+    ensures { λ r. ⌜ r ≡ isEmpty (decode (now (row .entry))) ⌝ }
+{
+    !is_held(row[MARK])
+}
+
+// The KID of a record that is not empty.
+pub fn kid_of(row: &[u8]) -> Kid
+    requires { ⌜ (length (now row) ≡ recordSize) × (isEmpty (decode (now row)) ≡ false) ⌝ }
+    ensures { λ r. ⌜ r .0 ≡ kidOf (decode (now (row .entry))) ⌝ }
+{
+    Kid(octets::read_be64(&row[KID..]))
+}
+
+// Whether a record is a sending one.
+pub fn is_sending(row: &[u8]) -> bool
+    requires { ⌜ length (now row) ≡ recordSize ⌝ }
+    ensures { λ r. ⌜ r ≡ isSending (decode (now (row .entry))) ⌝ }
+{
+    row[MARK] == SENDING
+}
+
+// Whether a record is a receiving one.
+pub fn is_receiving(row: &[u8]) -> bool
+    requires { ⌜ length (now row) ≡ recordSize ⌝ }
+    ensures { λ r. ⌜ r ≡ isReceiving (decode (now (row .entry))) ⌝ }
+{
+    row[MARK] == RECEIVING
+}
+
+// Whether a record is a non-empty one with that KID.
+pub fn holds_kid(row: &[u8], kid: Kid) -> bool
+    requires { ⌜ length (now row) ≡ recordSize ⌝ }
+    ensures { λ r. ⌜ r ≡ holds (kid .0) (decode (now (row .entry))) ⌝ }
+{
+    if !is_held(row[MARK]) {
+        return false;
+    }
+    octets::read_be64(&row[KID..]) == kid.0
+}
+
+// The suite of a record.
+pub fn suite_of(row: &[u8]) -> Suite
+    requires { ⌜ (Row (now row)) × (isEmpty (decode (now row)) ≡ false) ⌝ }
+    ensures { λ r. ⌜ Numbered r (suiteOf (decode (now (row .entry)))) ⌝ }
+{
+    let Found::Known(suite) = suites::sizes::find(row[SUITE] as u64) else {
+        return Suite::Ctr80;
+    };
+    suite
+}
+
+// The next counter of a sending record.
+pub fn next_of(row: &[u8]) -> Ctr
+    requires { ⌜ (Row (now row)) × (isSending (decode (now row)) ≡ true) ⌝ }
+    ensures { λ r. ⌜ r .0 ≡ counterOf (decode (now (row .entry))) ⌝ }
+{
+    Ctr(octets::read_be64(&row[COUNTER..]))
+}
+
+// Whether a sending record has a counter left.
+pub fn counter_left(row: &[u8]) -> bool
+    requires { ⌜ (Row (now row)) × (isSending (decode (now row)) ≡ true) ⌝ }
+    ensures { λ r. ⌜ r ≡ not (eqb (counterOf (decode (now (row .entry)))) ceiling) ⌝ }
+{
+    let ctr = next_of(row);
+    ctr.0 != CEILING
+}
+
+// The salt of a record.
+pub fn salt_of(row: &[u8]) -> &[u8]
+    requires { ⌜ (Row (now row)) × (hasKey (decode (now row)) ≡ true) ⌝ }
+    ensures { λ r. ⌜ (now r ≡ saltOf (decode (now (row .entry)))) × (length (now r) ≡ saltSize) ⌝ }
+{
+    &row[SALT..KEY]
+}
+
+// The key of a record of that suite.
+pub fn key_of(row: &[u8], suite: Suite) -> &[u8]
+    requires { ⌜ (Row (now row)) × (hasKey (decode (now row)) ≡ true) × (Numbered suite (suiteOf (decode (now row)))) ⌝ }
+    ensures { λ r. ⌜ (now r ≡ keyOf (decode (now (row .entry)))) × (length (now r) ≡ Nk suite) ⌝ }
+{
+    let end = KEY + suite.key_size();
+    &row[KEY..end]
+}
+
+// The mark of a new record.
+fn mark_for(role: Role) -> u8
+    ensures { λ r. ⌜ r ≡ markFor role ⌝ }
+{
+    match role {
+        Role::Sending => SENDING,
+        Role::Receiving => RECEIVING,
+    }
+}
+
+// Writes a new record over an empty one: mark, suite and KID, the counter 0, salt and key still zero.
+fn start(row: &mut [u8], mark: u8, suite: u8, kid: Kid)
+    requires { ⌜ now row ≡ replicate recordSize 0 ⌝ }
+    ensures { λ _. ⌜ now (row .exit) ≡ newRow mark suite (kid .0) (replicate saltSize 0) [] ⌝ }
+{
+    octets::write_be_at(row, KID, 8, kid.0);
+    row[SUITE] = suite;
+    row[MARK] = mark;
+}
+
+// Writes the record of a new key over an empty one.
+pub fn fill(row: &mut [u8], role: Role, suite: Suite, kid: Kid, base: &[u8])
+    requires { ⌜ (now row ≡ encode empty) × (length (now base) ≤ baseKeyMost) ⌝ }
+    ensures { λ _. ⌜ now (row .exit) ≡ encode (fresh role suite (kid .0) (now (base .entry))) ⌝ }
+{
+    start(row, mark_for(role), suite.number() as u8, kid);
+    let salt_end = SALT + suite.nonce_size();
+    suites::derivation::derive_salt(suite, base, kid, &mut row[SALT..salt_end]);
+    let key_end = KEY + suite.key_size();
+    suites::derivation::derive_key(suite, base, kid, &mut row[KEY..key_end]);
+}
+
+// Takes the next counter of a sending record.
+pub fn advance(row: &mut [u8])
+    requires { ⌜ (Row (now row)) × (isSending (decode (now row)) ≡ true) × (counterOf (decode (now row)) < ceiling) ⌝ }
+    ensures { λ _. ⌜ now (row .exit) ≡ encode (advanced (decode (now (row .entry)))) ⌝ }
+{
+    let ctr = next_of(row);
+    octets::write_be_at(row, COUNTER, 8, ctr.0 + 1);
+}
+
+// Retires a sending record.
+pub fn retire(row: &mut [u8])
+    requires { ⌜ (Row (now row)) × (isSending (decode (now row)) ≡ true) ⌝ }
+    ensures { λ _. ⌜ now (row .exit) ≡ encode (kept (decode (now (row .entry)))) ⌝ }
+{
+    octets::clear(&mut row[SALT..]);
+    row[MARK] = RETIRED;
+}
+
+// Empties a record.
+pub fn clear(row: &mut [u8])
+    requires { ⌜ length (now row) ≡ recordSize ⌝ }
+    ensures { λ _. ⌜ now (row .exit) ≡ encode empty ⌝ }
+{
+    octets::clear(row);
+}
