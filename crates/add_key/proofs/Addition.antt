@@ -12,18 +12,19 @@ use Rattle.suites.specs.declared.sizes.Suite.{Suite}
 use Rattle.suites.proofs.Laws.{number-known}
 use Rattle.store.specs.Calls.{stored}
 use Rattle.store.specs.Cipher.{Cipher}
-use Rattle.store.specs.Record.{KeyRecord, empty, isEmpty}
+use Rattle.key_record.specs.Record.{KeyRecord, empty, isEmpty}
 use Rattle.store.specs.Sframe.{keyFor, saltFor, sframe}
 use Rattle.store.specs.Store.{encodeAll, records, sound}
-use Rattle.store.specs.Suites.{isSuite}
+use Rattle.key_record.specs.Suites.{isSuite}
 use Rattle.store.specs.Table.{get, fill, full, FoundIn, FreeIn}
-use Rattle.store.specs.inner.Rows.{fresh}
+use Rattle.key_record.specs.inner.Rows.{fresh}
 use Rattle.store.specs.declared.Place.{Place}
 use Rattle.store.specs.declared.Place.the-variants.{At, Nowhere}
-use Rattle.store.specs.declared.Role.{Role}
-use Rattle.store.specs.declared.Role.the-variants.{Sending, Receiving}
+use Rattle.key_record.specs.declared.Role.{Role}
+use Rattle.key_record.specs.declared.Role.the-variants.{Sending, Receiving}
 use Rattle.answers.proofs.Basics.{told-false, told-true}
-use Rattle.store.proofs.Tables.{holds-some, fill-at}
+use Rattle.store.proofs.Tables.{fill-at}
+use Rattle.key_record.proofs.KindLaws.{holds-some}
 use Rattle.add_key.specs.Add.{barred, added, addCauses, addAt, add}
 
 -- the record of a new key is the one that the definition adds

@@ -13,14 +13,14 @@ use Rattle.answers.specs.Limits.{baseKeyLeast, baseKeyMost}
 use Rattle.answers.proofs.Basics.{Settled, success, refusal, settle}
 use Rattle.store.specs.Calls.{stored}
 use Rattle.store.specs.Cipher.{Cipher}
-use Rattle.store.specs.Record.{KeyRecord, empty, isEmpty}
+use Rattle.key_record.specs.Record.{KeyRecord, empty, isEmpty, holds}
 use Rattle.store.specs.Store.{encodeAll}
-use Rattle.store.specs.Suites.{isSuite}
-use Rattle.store.specs.Table.{holds, get, fill, full}
-use Rattle.store.specs.declared.Role.{Role}
-use Rattle.store.specs.declared.Role.the-variants.{Sending, Receiving}
+use Rattle.key_record.specs.Suites.{isSuite}
+use Rattle.store.specs.Table.{get, fill, full}
+use Rattle.key_record.specs.declared.Role.{Role}
+use Rattle.key_record.specs.declared.Role.the-variants.{Sending, Receiving}
 use Rattle.store.proofs.CipherLaws.{Laws}
-use Rattle.store.proofs.Codec.{Secret, Fit}
+use Rattle.key_record.proofs.Codec.{Secret, Fit}
 use Rattle.store.proofs.Stores.{Stored, stored-sound, stored-records, Change, fill-change}
 use Rattle.store.proofs.Tables.{empty-is}
 use Rattle.add_key.specs.Add.{barred, added, addCauses, addAt, add}

@@ -13,12 +13,12 @@ use Rattle.suites.specs.Suites.{numberOf}
 use Rattle.suites.specs.declared.sizes.Suite.the-variants.{Ctr32}
 use Rattle.store.specs.Calls.{stored}
 use Rattle.store.specs.Cipher.{Cipher}
-use Rattle.store.specs.Record.{KeyRecord, sending, receiving, isEmpty}
+use Rattle.key_record.specs.Record.{KeyRecord, sending, receiving, isEmpty}
 use Rattle.store.specs.Store.{encodeAll, records, sound}
-use Rattle.store.specs.Suites.{isSuite}
+use Rattle.key_record.specs.Suites.{isSuite}
 use Rattle.store.specs.Table.{get, fill, full}
-use Rattle.store.specs.declared.Role.{Role}
-use Rattle.store.specs.declared.Role.the-variants.{Sending, Receiving}
+use Rattle.key_record.specs.declared.Role.{Role}
+use Rattle.key_record.specs.declared.Role.the-variants.{Sending, Receiving}
 
 -- The suite with tags of 4 bytes, which RFC 9605 warns of (7.5): a new key of it is for receiving alone.
 abbrev pub receiveOnly : ℕ

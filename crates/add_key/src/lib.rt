@@ -13,7 +13,7 @@ use answers::STORE_INVALID;
 use answers::SUITE_UNKNOWN;
 use header::Kid;
 use store::Place;
-use store::Role;
+use key_record::Role;
 use suites::sizes::Aes128CtrHmacSha256Tag32;
 use suites::sizes::Found;
 

@@ -24,18 +24,18 @@ use Rattle.suites.specs.Derivation.{nonce}
 use Rattle.suites.specs.Aead.{Decrypted, plain, differs, decrypt, isPlain, roomAfter}
 use Rattle.suites.specs.declared.sizes.Suite.{Suite}
 use Rattle.suites.proofs.Laws.{Nt-most, decrypt-only, encrypt-size}
-use Rattle.store.specs.Layout.{decode}
-use Rattle.store.specs.Record.{KeyRecord, empty, isEmpty, isReceiving, suiteOf, saltOf, keyOf}
+use Rattle.key_record.specs.Layout.{decode}
+use Rattle.key_record.specs.Record.{KeyRecord, empty, isEmpty, isReceiving, suiteOf, saltOf, keyOf}
 use Rattle.store.specs.Sframe.{given, decryptBy, sframe}
 use Rattle.store.specs.Store.{records, sound}
-use Rattle.store.specs.Suites.{tagSize}
+use Rattle.key_record.specs.Suites.{tagSize}
 use Rattle.store.specs.Table.{get, FoundIn}
-use Rattle.store.specs.inner.Rows.{RowOf, Numbered}
+use Rattle.key_record.specs.inner.Rows.{Numbered}
+use Rattle.store.specs.inner.Places.{RowOf}
 use Rattle.store.specs.declared.Place.{Place}
 use Rattle.store.specs.declared.Place.the-variants.{At, Nowhere}
-use Rattle.store.proofs.KindLaws.{receives-held}
-use Rattle.store.proofs.Suites.{tag-named}
-use Rattle.store.proofs.Tables.{holds-some}
+use Rattle.key_record.proofs.KindLaws.{receives-held, holds-some}
+use Rattle.key_record.proofs.Suites.{tag-named}
 use Rattle.open_frame.specs.Open.{plainOf, plainLength, decrypted, openCauses, causesOfOpen, openAt, opening}
 use Rattle.open_frame.specs.inner.Rooms.{roomFor}
 use Rattle.open_frame.specs.declared.Room.{Room}

@@ -12,9 +12,9 @@ use Rattle.header.specs.declared.Reading.{Reading}
 use Rattle.answers.specs.Answers.{storeInvalid, kidMissing, roleRefused, inputTooLong, frameShort, tagDiffers, Cause, _if_, first, Outcome, settled}
 use Rattle.answers.specs.Limits.{tooLong}
 use Rattle.store.specs.Cipher.{Cipher, Decrypted, plain, differs}
-use Rattle.store.specs.Record.{KeyRecord, isEmpty, isReceiving, suiteOf, saltOf, keyOf}
+use Rattle.key_record.specs.Record.{KeyRecord, isEmpty, isReceiving, suiteOf, saltOf, keyOf}
 use Rattle.store.specs.Store.{records, sound}
-use Rattle.store.specs.Suites.{tagSize}
+use Rattle.key_record.specs.Suites.{tagSize}
 use Rattle.store.specs.Table.{get}
 
 abbrev pub plainOf : Decrypted → List ℕ

@@ -11,10 +11,10 @@ ghost use Rattle.answers.specs.Limits.{maxPlaintext, maxMetadata};
 ghost use Rattle.suites.specs.Suites.{Nt};
 ghost use Rattle.suites.specs.Derivation.{nonce};
 ghost use Rattle.suites.specs.Aead.{decrypt, isPlain, roomAfter};
-ghost use Rattle.store.specs.Layout.{decode};
-ghost use Rattle.store.specs.Record.{isEmpty, isReceiving, suiteOf, saltOf, keyOf};
+ghost use Rattle.key_record.specs.Layout.{decode};
+ghost use Rattle.key_record.specs.Record.{isEmpty, isReceiving, suiteOf, saltOf, keyOf};
 ghost use Rattle.store.specs.Sframe.{sframe};
-ghost use Rattle.store.specs.inner.Rows.{Row, Numbered};
+ghost use Rattle.key_record.specs.inner.Rows.{Row, Numbered};
 ghost use Rattle.open_frame.specs.Open.{openAt, opening};
 ghost use Rattle.open_frame.specs.inner.Rooms.{roomFor};
 use answers::Answer;
@@ -57,8 +57,8 @@ fn decrypt_with(
     ensures { λ r. ⌜ r ≡ isPlain (decrypt suite (keyOf (decode (now (row .entry)))) (nonce (saltOf (decode (now (row .entry)))) (ctr .0)) (take n (now (frame .entry)) ++ now (metadata .entry)) (drop n (now (frame .entry)))) ⌝ }
     ensures { λ _. ⌜ now (room .exit) ≡ roomAfter (decrypt suite (keyOf (decode (now (row .entry)))) (nonce (saltOf (decode (now (row .entry)))) (ctr .0)) (take n (now (frame .entry)) ++ now (metadata .entry)) (drop n (now (frame .entry)))) (now (room .entry)) ⌝ }
 {
-    let nonce = suites::derivation::nonce_of(store::row::salt_of(row), ctr);
-    let key = store::row::key_of(row, suite);
+    let nonce = suites::derivation::nonce_of(key_record::row::salt_of(row), ctr);
+    let key = key_record::row::key_of(row, suite);
     suites::aead::decrypt(
         suite,
         key,
@@ -94,10 +94,10 @@ fn open_with(
     ensures { λ r. ⌜ (r .number ≡ openAt sframe true (Header kid ctr n) (decode (now (row .entry))) [] (now (metadata .entry)) (now (frame .entry)) (now (room .entry)) .number) × (r .length ≡ openAt sframe true (Header kid ctr n) (decode (now (row .entry))) [] (now (metadata .entry)) (now (frame .entry)) (now (room .entry)) .written) ⌝ }
     ensures { λ _. ⌜ now (room .exit) ≡ openAt sframe true (Header kid ctr n) (decode (now (row .entry))) [] (now (metadata .entry)) (now (frame .entry)) (now (room .entry)) .room ⌝ }
 {
-    if !store::row::is_receiving(row) {
+    if !key_record::row::is_receiving(row) {
         return refused(ROLE_REFUSED);
     }
-    let suite = store::row::suite_of(row);
+    let suite = key_record::row::suite_of(row);
     let nt = suite.tag_size();
     let rest = frame.len() - n;
     if rest < nt {

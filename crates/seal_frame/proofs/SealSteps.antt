@@ -25,20 +25,21 @@ use Rattle.suites.specs.Derivation.{nonce}
 use Rattle.suites.specs.Aead as Aead
 use Rattle.suites.specs.declared.sizes.Suite.{Suite}
 use Rattle.suites.proofs.Laws as Suites
-use Rattle.store.specs.Layout.{decode}
-use Rattle.store.specs.Record.{ceiling, KeyRecord, empty, isEmpty, isSending, suiteOf, saltOf, keyOf, counterOf, advanced}
+use Rattle.key_record.specs.Layout.{decode}
+use Rattle.key_record.specs.Record.{ceiling, KeyRecord, empty, isEmpty, isSending, suiteOf, saltOf, keyOf, counterOf, advanced}
 use Rattle.store.specs.Sframe.{encryptBy, sframe}
 use Rattle.store.specs.Store.{encodeAll, records, sound}
-use Rattle.store.specs.Suites.{tagSize}
+use Rattle.key_record.specs.Suites.{tagSize}
 use Rattle.store.specs.Table.{get, put, apart, FoundIn}
-use Rattle.store.specs.inner.Rows.{RowOf, Numbered}
+use Rattle.key_record.specs.inner.Rows.{Numbered}
+use Rattle.store.specs.inner.Places.{RowOf}
 use Rattle.store.specs.declared.Place.{Place}
 use Rattle.store.specs.declared.Place.the-variants.{At, Nowhere}
-use Rattle.store.proofs.Codec.{Fit}
-use Rattle.store.proofs.KindLaws.{sends-held, fit-counter}
+use Rattle.key_record.proofs.Codec.{Fit}
+use Rattle.key_record.proofs.KindLaws.{sends-held, fit-counter, holds-some}
 use Rattle.store.proofs.Stores.{sound-stored, get-fit}
-use Rattle.store.proofs.Suites.{tag-named}
-use Rattle.store.proofs.Tables.{put-at, holds-some}
+use Rattle.key_record.proofs.Suites.{tag-named}
+use Rattle.store.proofs.Tables.{put-at}
 use Rattle.seal_frame.specs.Frame.{frameWith, frame}
 use Rattle.seal_frame.specs.Seal.{nextLength, sealCauses, causesOfSeal, nextFrame, sealAt, seal}
 

@@ -12,13 +12,13 @@ use Rattle.header.specs.Header.{header}
 use Rattle.header.specs.Answers.{roomShort}
 use Rattle.answers.specs.Answers.{storeInvalid, kidMissing, roleRefused, counterSpent, inputTooLong, _if_, Outcome}
 use Rattle.store.specs.Cipher.{Cipher}
-use Rattle.store.specs.Record.{ceiling, SendingKey, KeyRecord, empty, sending, receiving, retired, isEmpty, isSending, suiteOf, counterOf, advanced}
+use Rattle.key_record.specs.Record.{ceiling, SendingKey, KeyRecord, empty, sending, receiving, retired, isEmpty, isSending, suiteOf, counterOf, advanced, holds}
 use Rattle.store.specs.Store.{encodeAll}
-use Rattle.store.specs.Suites.{tagSize}
-use Rattle.store.specs.Table.{holds, get, put}
+use Rattle.key_record.specs.Suites.{tagSize}
+use Rattle.store.specs.Table.{get, put}
 use Rattle.answers.proofs.Basics.{Settled, success, refusal, settle}
 use Rattle.store.proofs.CipherLaws.{Laws}
-use Rattle.store.proofs.Codec.{Fit}
+use Rattle.key_record.proofs.Codec.{Fit}
 use Rattle.store.proofs.Stores.{Stored, stored-sound, stored-records, Change, put-change, get-fit}
 use Rattle.store.proofs.Tables.{get-holds}
 use Rattle.answers.specs.Limits.{maxPlaintext, maxMetadata, tooLong}

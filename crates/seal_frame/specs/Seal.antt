@@ -11,9 +11,9 @@ use Rattle.header.specs.Answers.{roomShort}
 use Rattle.answers.specs.Answers.{storeInvalid, kidMissing, roleRefused, counterSpent, inputTooLong, Cause, _if_, first, Outcome, settled}
 use Rattle.answers.specs.Limits.{tooLong}
 use Rattle.store.specs.Cipher.{Cipher}
-use Rattle.store.specs.Record.{ceiling, KeyRecord, isEmpty, isSending, suiteOf, saltOf, keyOf, counterOf, advanced}
+use Rattle.key_record.specs.Record.{ceiling, KeyRecord, isEmpty, isSending, suiteOf, saltOf, keyOf, counterOf, advanced}
 use Rattle.store.specs.Store.{encodeAll, records, sound}
-use Rattle.store.specs.Suites.{tagSize}
+use Rattle.key_record.specs.Suites.{tagSize}
 use Rattle.store.specs.Table.{get, put}
 use Rattle.seal_frame.specs.Frame.{frame}
 

@@ -25,10 +25,10 @@ ghost use Rattle.answers.specs.Limits.{maxPlaintext, maxMetadata};
 ghost use Rattle.suites.specs.Suites.{Nt};
 ghost use Rattle.suites.specs.Derivation.{nonce};
 ghost use Rattle.suites.specs.Aead.{encrypt};
-ghost use Rattle.store.specs.Layout.{decode};
-ghost use Rattle.store.specs.Record.{isEmpty, isSending, suiteOf, saltOf, keyOf, counterOf};
+ghost use Rattle.key_record.specs.Layout.{decode};
+ghost use Rattle.key_record.specs.Record.{isEmpty, isSending, suiteOf, saltOf, keyOf, counterOf};
 ghost use Rattle.store.specs.Sframe.{sframe};
-ghost use Rattle.store.specs.inner.Rows.{Row, Numbered};
+ghost use Rattle.key_record.specs.inner.Rows.{Row, Numbered};
 ghost use Rattle.seal_frame.specs.Seal.{nextLength, causesOfSeal, nextFrame, seal};
 
 // Writes the header of a sending record's next frame to the front of head.
@@ -37,7 +37,7 @@ fn write_next(row: &[u8], kid: Kid, head: &mut [u8]) -> usize
     ensures { λ r. ⌜ (r ≡ length (header (kid .0) (counterOf (decode (now (row .entry)))))) × (r ≤ maxHeader) ⌝ }
     ensures { λ r. ⌜ now (head .exit) ≡ header (kid .0) (counterOf (decode (now (row .entry)))) ++ drop r (now (head .entry)) ⌝ }
 {
-    let ctr = store::row::next_of(row);
+    let ctr = key_record::row::next_of(row);
     let Written::Length(n) = header::write_header(kid, ctr, head) else {
         return 0;
     };
@@ -51,7 +51,7 @@ fn next_length(row: &[u8], kid: Kid, plaintext: usize) -> usize
 {
     let mut head = [0u8; MAX_HEADER];
     let n = write_next(row, kid, &mut head);
-    let nt = store::row::suite_of(row).tag_size();
+    let nt = key_record::row::suite_of(row).tag_size();
     n + (plaintext + nt)
 }
 
@@ -60,10 +60,10 @@ fn judge(row: &[u8], kid: Kid, metadata: usize, plaintext: usize, room: usize) -
     requires { ⌜ (Row (now row)) × (isEmpty (decode (now row)) ≡ false) ⌝ }
     ensures { λ r. ⌜ r ≡ first (causesOfSeal true (decode (now (row .entry))) (kid .0) metadata plaintext room) ⌝ }
 {
-    if !store::row::is_sending(row) {
+    if !key_record::row::is_sending(row) {
         return ROLE_REFUSED;
     }
-    if !store::row::counter_left(row) {
+    if !key_record::row::counter_left(row) {
         return COUNTER_SPENT;
     }
     if too_long(plaintext, metadata) {
@@ -89,9 +89,9 @@ fn encrypt_next(
     requires { ⌜ length (now out) ≡ length (now plaintext) + Nt suite ⌝ }
     ensures { λ _. ⌜ now (out .exit) ≡ encrypt suite (keyOf (decode (now (row .entry)))) (nonce (saltOf (decode (now (row .entry)))) (counterOf (decode (now (row .entry))))) (now (head .entry) ++ now (metadata .entry)) (now (plaintext .entry)) ⌝ }
 {
-    let ctr = store::row::next_of(row);
-    let nonce = suites::derivation::nonce_of(store::row::salt_of(row), ctr);
-    let key = store::row::key_of(row, suite);
+    let ctr = key_record::row::next_of(row);
+    let nonce = suites::derivation::nonce_of(key_record::row::salt_of(row), ctr);
+    let key = key_record::row::key_of(row, suite);
     suites::aead::encrypt(suite, key, &nonce, head, metadata, plaintext, out);
 }
 
@@ -102,7 +102,7 @@ fn write_frame(row: &[u8], kid: Kid, metadata: &[u8], plaintext: &[u8], room: &m
     ensures { λ r. ⌜ r ≡ length (nextFrame sframe (decode (now (row .entry))) (kid .0) (now (metadata .entry)) (now (plaintext .entry))) ⌝ }
     ensures { λ r. ⌜ now (room .exit) ≡ nextFrame sframe (decode (now (row .entry))) (kid .0) (now (metadata .entry)) (now (plaintext .entry)) ++ drop r (now (room .entry)) ⌝ }
 {
-    let suite = store::row::suite_of(row);
+    let suite = key_record::row::suite_of(row);
     let mut head = [0u8; MAX_HEADER];
     let n = write_next(row, kid, &mut head);
     let end = n + (plaintext.len() + suite.tag_size());

@@ -19,7 +19,7 @@ use Rattle.seal_frame.specs.Frame.{frameWith, frame}
 use Rattle.sframe.specs.Promises.{kidOf, ctrOf, Begins, isSender, senders, OpenedTo, keyFrom, saltFrom, nonceOf, Holds, Frame, Pair, Kept}
 use Rattle.sframe.specs.History.{Adding, Sealing, Event, added, sealed, other}
 use Rattle.sframe.proofs.Ledger.{Each, Fact, fact-reads, fact-kid, fact-ctr, Below, Proper}
-use Rattle.store.specs.Suites.{tagSize}
+use Rattle.key_record.specs.Suites.{tagSize}
 use Rattle.sframe.proofs.Opens.{opens-exactly}
 
 -- ---- a place in the events

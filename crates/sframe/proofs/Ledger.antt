@@ -16,12 +16,12 @@ use Rattle.answers.specs.Answers.{Outcome}
 use Rattle.store.specs.Calls.{make, remove}
 use Rattle.add_key.specs.Add.{add, added as addedRecord}
 use Rattle.store.specs.Cipher.{Cipher}
-use Rattle.store.specs.Record.{ceiling, SendingKey, ReceivingKey, KeyRecord, empty, sending, receiving, retired, counterOf}
+use Rattle.key_record.specs.Record.{ceiling, SendingKey, ReceivingKey, KeyRecord, empty, sending, receiving, retired, counterOf}
 use Rattle.store.specs.Table.{get, put, clear, fill}
 use Rattle.answers.proofs.Basics.{Two, yes′, no′, two, settled-store}
 use Rattle.store.proofs.CipherLaws.{Laws}
 use Rattle.store.proofs.Keys.{make-stored, empties-get, RemoveStep, remove-step}
-use Rattle.store.specs.inner.Rows.{kept}
+use Rattle.key_record.specs.inner.Rows.{kept}
 use Rattle.add_key.proofs.Adds.{AddStep, add-step}
 use Rattle.store.proofs.Stores.{Stored, Change}
 use Rattle.answers.specs.Limits.{maxPlaintext, maxMetadata}
@@ -30,10 +30,10 @@ use Rattle.open_frame.specs.Open.{openAt, opening}
 use Rattle.seal_frame.specs.Frame.{frameWith, frame}
 use Rattle.sframe.specs.Promises.{kidOf, ctrOf, senders, keyFrom, saltFrom}
 use Rattle.sframe.specs.History.{Call, Add, Remove, Seal, Open, Typed, AllTyped, Adding, Sealing, Event, added, sealed, other, event, History, outcome, step, run, start}
-use Rattle.store.specs.Suites.{isSuite}
+use Rattle.key_record.specs.Suites.{isSuite}
 use Rattle.seal_frame.proofs.Seals.{next, Sealed, SealStep, seal-step}
-use Rattle.store.specs.declared.Role.{Role}
-use Rattle.store.specs.declared.Role.the-variants.{Sending, Receiving}
+use Rattle.key_record.specs.declared.Role.{Role}
+use Rattle.key_record.specs.declared.Role.the-variants.{Sending, Receiving}
 
 -- ---- the words of it
 

@@ -12,9 +12,9 @@ use Rattle.header.specs.Answers.{readKid}
 use Rattle.header.specs.Header.{readHeader}
 use Rattle.answers.specs.Answers.{Outcome, settled}
 use Rattle.store.specs.Cipher.{Cipher}
-use Rattle.store.specs.Record.{KeyRecord, empty, advanced}
+use Rattle.key_record.specs.Record.{KeyRecord, empty, advanced, holds}
 use Rattle.store.specs.Store.{records, sound}
-use Rattle.store.specs.Table.{holds, get, put}
+use Rattle.store.specs.Table.{get, put}
 use Rattle.answers.proofs.Basics.{Two, yes′, no′, two}
 use Rattle.store.proofs.CipherLaws.{Laws}
 use Rattle.store.proofs.Stores.{Stored, sound-stored, stored-records, stored-lengths}

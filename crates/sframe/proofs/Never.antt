@@ -11,10 +11,10 @@ use Rattle.octets.specs.Octets.{Octets}
 use Rattle.answers.specs.Answers.{Outcome}
 use Rattle.answers.proofs.Basics.{Two, yes′, no′, two}
 use Rattle.store.specs.Cipher.{Cipher}
-use Rattle.store.specs.Record.{empty}
+use Rattle.key_record.specs.Record.{empty}
 use Rattle.store.specs.Table.{get}
-use Rattle.store.specs.declared.Role.{Role}
-use Rattle.store.specs.declared.Role.the-variants.{Sending, Receiving}
+use Rattle.key_record.specs.declared.Role.{Role}
+use Rattle.key_record.specs.declared.Role.the-variants.{Sending, Receiving}
 use Rattle.store.proofs.CipherLaws.{Laws}
 use Rattle.add_key.specs.Add.{barred, add}
 use Rattle.add_key.proofs.Adds.{AddStep, add-step}

@@ -18,18 +18,18 @@ use Rattle.header.specs.declared.Reading.the-variants.{Header}
 use Rattle.header.proofs.Laws.{header-read}
 use Rattle.answers.specs.Answers.{storeInvalid, kidMissing, roleRefused, inputTooLong, frameShort, tagDiffers, _if_, Outcome, first}
 use Rattle.store.specs.Cipher.{Cipher, Decrypted, plain, differs}
-use Rattle.store.specs.Record.{ReceivingKey, KeyRecord, receiving, isEmpty, isReceiving, suiteOf}
+use Rattle.key_record.specs.Record.{ReceivingKey, KeyRecord, receiving, isEmpty, isReceiving, suiteOf, holds}
 use Rattle.store.specs.Store.{records}
-use Rattle.store.specs.Table.{holds, get}
+use Rattle.store.specs.Table.{get}
 use Rattle.answers.proofs.Basics.{both-and, Pass, passes, none-applies, settled-done, settled-number}
 use Rattle.store.proofs.CipherLaws.{Laws, Usable}
-use Rattle.store.proofs.Codec.{Fit}
+use Rattle.key_record.proofs.Codec.{Fit}
 use Rattle.store.proofs.Stores.{Stored, sound-stored, stored-sound, stored-records, get-fit}
 use Rattle.store.proofs.Tables.{get-at}
 use Rattle.answers.specs.Limits.{maxPlaintext, maxMetadata, tooLong}
 use Rattle.open_frame.specs.Open.{plainOf, isDiffers, decrypted, plainLength, openCauses, causesOfOpen, openAt, opening}
 use Rattle.seal_frame.specs.Frame.{frameWith}
-use Rattle.store.specs.Suites.{tagSize}
+use Rattle.key_record.specs.Suites.{tagSize}
 use Rattle.sframe.specs.Promises.{Holds, Encryption, Openable, OpensExactly}
 
 short-enough : (n m : ℕ) → n ≤ maxPlaintext → m ≤ maxMetadata → tooLong n m ≡ false

@@ -9,7 +9,7 @@ use Rattle.answers.specs.Answers.{Outcome, settled}
 use Rattle.store.specs.Calls.{make, removeAt, remove}
 use Rattle.add_key.specs.Add.{addAt, add}
 use Rattle.store.specs.Cipher.{Cipher}
-use Rattle.store.specs.Record.{KeyRecord, empty}
+use Rattle.key_record.specs.Record.{KeyRecord, empty}
 use Rattle.store.specs.Store.{records, sound}
 use Rattle.store.proofs.CipherLaws.{Laws}
 use Rattle.store.proofs.Keys.{make-stored, RemoveStep, remove-step}

@@ -7,9 +7,9 @@ use native.Mathlib.Omega.{arith}
 use lib.ListN.{length}
 use Rattle.octets.specs.Octets.{Octets}
 use Rattle.store.specs.Cipher as Store
-use Rattle.store.specs.Suites.{isSuite, keySize, tagSize}
+use Rattle.key_record.specs.Suites.{isSuite, keySize, tagSize}
 use Rattle.store.proofs.CipherLaws.{Laws}
-use Rattle.store.proofs.Suites.{named, key-named, tag-named}
+use Rattle.key_record.proofs.Suites.{named, key-named, tag-named}
 use Rattle.store.specs.Sframe.{given, keyFor, saltFor, encryptBy, decryptBy, sframe}
 use Rattle.suites.specs.Aead as Aead
 use Rattle.suites.specs.Aead.{plain, differs}

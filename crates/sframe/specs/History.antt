@@ -11,7 +11,7 @@ use Rattle.add_key.specs.Add.{add}
 use Rattle.store.specs.Cipher.{Cipher}
 use Rattle.seal_frame.specs.Seal.{seal}
 use Rattle.open_frame.specs.Open.{opening}
-use Rattle.store.specs.declared.Role.{Role}
+use Rattle.key_record.specs.declared.Role.{Role}
 
 -- A call with its inputs and its room.
 pub data Call : Type 0 where

@@ -13,17 +13,16 @@ use Rattle.header.specs.Header.{readHeader}
 use Rattle.header.specs.declared.Reading.the-variants.{Header}
 use Rattle.answers.specs.Answers.{Outcome}
 use Rattle.store.specs.Cipher.{Cipher}
-use Rattle.store.specs.Record.{ReceivingKey, empty, receiving}
+use Rattle.key_record.specs.Record.{ReceivingKey, empty, receiving, holds}
 use Rattle.store.specs.Store.{records, sound}
-use Rattle.store.specs.Table.{holds}
 use Rattle.answers.specs.Limits.{maxPlaintext, maxMetadata}
 use Rattle.add_key.specs.Add.{barred}
 use Rattle.open_frame.specs.Open.{opening}
 use Rattle.seal_frame.specs.Frame.{frameWith, frame}
-use Rattle.store.specs.Suites.{tagSize}
+use Rattle.key_record.specs.Suites.{tagSize}
 use Rattle.sframe.specs.History.{Call, roomOf, Adding, Sealing, Event, added, sealed, other}
-use Rattle.store.specs.declared.Role.{Role}
-use Rattle.store.specs.declared.Role.the-variants.{Sending, Receiving}
+use Rattle.key_record.specs.declared.Role.{Role}
+use Rattle.key_record.specs.declared.Role.the-variants.{Sending, Receiving}
 
 -- A sealed frame "carries" the KID and the counter that its own header gives.
 unfoldable pub kidOf : Sealing → ℕ

@@ -6,7 +6,7 @@ ghost use Rattle.header.specs.Header.{writeHeader, readHeader};
 ghost use Rattle.header.specs.Answers.{writtenNumber, writtenLength, readNumber, readKid, readCtr, readLength};
 ghost use Rattle.store.specs.Calls.{make, remove};
 ghost use Rattle.store.specs.Sframe.{sframe};
-ghost use Rattle.store.specs.declared.Role.the-variants.{Sending, Receiving};
+ghost use Rattle.key_record.specs.declared.Role.the-variants.{Sending, Receiving};
 ghost use Rattle.add_key.specs.Add.{add};
 ghost use Rattle.seal_frame.specs.Seal.{seal};
 ghost use Rattle.open_frame.specs.Open.{opening};
@@ -18,7 +18,7 @@ use header::Ctr;
 use header::Kid;
 use header::Reading;
 use header::Written;
-use store::Role;
+use key_record::Role;
 
 #[no_mangle]
 pub extern "C" fn sframe_write_header(kid: u64, ctr: u64, out: &mut [u8], length: &mut usize) -> u32

@@ -5,14 +5,14 @@ use Prim.Native.Nat.{ℕ}
 use native.Mathlib.Omega.{arith}
 use lib.ListN.{set}
 use borrow.Author.Needs.{needs}
-use Rattle.store.specs.Record.{KeyRecord}
+use Rattle.key_record.specs.Record.{KeyRecord}
 use Rattle.store.specs.Store.{encodeAll, records, sound}
-use Rattle.store.specs.Suites.{isSuite}
-use Rattle.store.specs.inner.Rows.{Whole}
+use Rattle.key_record.specs.Suites.{isSuite}
+use Rattle.store.specs.inner.Places.{Whole}
 use Rattle.store.specs.Sframe.{sframe}
 use Rattle.store.proofs.Places.{tested-whole, free-within}
 use Rattle.answers.proofs.Basics.{told-true}
-use Rattle.store.proofs.Suites.{suite-named, suite-unnamed}
+use Rattle.key_record.proofs.Suites.{suite-named, suite-unnamed}
 use Rattle.suites.proofs.Laws.{number-is}
 use Rattle.add_key.specs.Add.{barred}
 use Rattle.add_key.proofs.Addition.{add-unsound, add-suite, add-barred, add-short, add-long, add-held, add-full, add-done, added-told, free-empty}

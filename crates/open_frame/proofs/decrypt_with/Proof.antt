@@ -2,8 +2,8 @@ use mathlib.Core.Path.{_∙_, ap, refl}
 use native.Mathlib.Omega.{arith}
 use borrow.Author.Needs.{needs}
 use Rattle.suites.specs.Aead.{isPlain, roomAfter}
-use Rattle.store.specs.Layout.{decode}
-use Rattle.store.proofs.KindLaws.{receives-keyed}
+use Rattle.key_record.specs.Layout.{decode}
+use Rattle.key_record.proofs.KindLaws.{receives-keyed}
 use Rattle.open_frame.proofs.OpenSteps.{frame-parts, parts-decrypt}
 use Rattle.open_frame.proofs.decrypt_with.Statement.{statement}
 use Rattle.open_frame.proofs.decrypt_with.Tie as tie

@@ -6,7 +6,7 @@ use borrow.Author.Needs.{needs}
 use Rattle.answers.specs.Limits.{tooLong}
 use Rattle.answers.proofs.Basics.{told-false, told-true}
 use Rattle.answers.proofs.Limits.{not-long}
-use Rattle.store.specs.Layout.{decode}
+use Rattle.key_record.specs.Layout.{decode}
 use Rattle.open_frame.proofs.OpenSteps.{role-refused, frame-short, too-long-refused, room-refused, room-told, tag-refused, frame-opened}
 use Rattle.open_frame.proofs.open_with.Statement.{statement}
 use Rattle.open_frame.proofs.open_with.Tie as tie

@@ -1,7 +1,7 @@
 use native.Mathlib.Omega.{arith}
 use borrow.Author.Needs.{needs}
-use Rattle.store.specs.Layout.{decode}
-use Rattle.store.proofs.KindLaws.{sends-keyed}
+use Rattle.key_record.specs.Layout.{decode}
+use Rattle.key_record.proofs.KindLaws.{sends-keyed}
 use Rattle.seal_frame.proofs.SealSteps.{body-is}
 use Rattle.seal_frame.proofs.encrypt_next.Statement.{statement}
 use Rattle.seal_frame.proofs.encrypt_next.Tie as tie

@@ -3,7 +3,7 @@ use borrow.Author.Needs.{needs}
 use Rattle.answers.proofs.Basics.{told-false, told-true}
 use Rattle.answers.proofs.Limits.{not-long}
 use mathlib.Core.Path.{sym, _∙_}
-use Rattle.store.specs.Layout.{decode}
+use Rattle.key_record.specs.Layout.{decode}
 use Rattle.seal_frame.proofs.SealSteps.{judged-role, judged-counter, judged-long, judged-room, judged-done}
 use Rattle.seal_frame.proofs.judge.Statement.{statement}
 use Rattle.seal_frame.proofs.judge.Tie as tie

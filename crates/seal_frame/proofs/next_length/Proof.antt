@@ -1,7 +1,7 @@
 use native.Mathlib.Omega.{arith}
 use borrow.Author.Needs.{needs}
-use Rattle.store.specs.Layout.{decode}
-use Rattle.store.proofs.KindLaws.{sends-held}
+use Rattle.key_record.specs.Layout.{decode}
+use Rattle.key_record.proofs.KindLaws.{sends-held}
 use Rattle.seal_frame.proofs.SealSteps.{length-told, length-fits}
 use Rattle.seal_frame.proofs.next_length.Statement.{statement}
 use Rattle.seal_frame.proofs.next_length.Tie as tie
