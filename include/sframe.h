@@ -63,6 +63,8 @@ enum sframe_answer {
     SFRAME_ROOM_SHORT = 12,
     /* The tag is not the one of this frame, key and metadata. */
     SFRAME_TAG_DIFFERS = 13,
+    /* No key is added for sending with SFRAME_AES_128_CTR_HMAC_SHA256_32, whose tags have 4 bytes. */
+    SFRAME_SENDING_BARRED = 17,
     /* The bits of the step are not 1 to SFRAME_MAX_RATCHET_BITS, or the key number does not fit in 64
      * bits. */
     SFRAME_RATCHET_KID_INVALID = 20,
@@ -113,14 +115,18 @@ uint32_t sframe_make(uint8_t *store, size_t store_len);
  * first empty record of the store, and its counter starts at 0. A key number that was once added for
  * sending is never added again, in either role.
  *
- * SFRAME_DONE, or the first of SFRAME_STORE_NOT_SOUND, SFRAME_SUITE_UNKNOWN, SFRAME_BASE_KEY_LENGTH,
- * SFRAME_KID_HELD, SFRAME_STORE_FULL that holds.
+ * SFRAME_AES_128_CTR_HMAC_SHA256_32 is for receiving alone, since a tag of 4 bytes is easier to forge
+ * (RFC 9605, section 7.5). A sending key of that suite which a store already holds seals on, until its
+ * counters are spent or it is removed.
+ *
+ * SFRAME_DONE, or the first of SFRAME_STORE_NOT_SOUND, SFRAME_SUITE_UNKNOWN, SFRAME_SENDING_BARRED,
+ * SFRAME_BASE_KEY_LENGTH, SFRAME_KID_HELD, SFRAME_STORE_FULL that holds.
  */
 uint32_t sframe_add_sending(uint8_t *store, size_t store_len, uint64_t kid, uint64_t suite, const uint8_t *base_key,
                             size_t base_key_len);
 
 /*
- * Adds a key for opening. As sframe_add_sending in all else.
+ * Adds a key for opening, of any suite. As sframe_add_sending in all else.
  */
 uint32_t sframe_add_receiving(uint8_t *store, size_t store_len, uint64_t kid, uint64_t suite, const uint8_t *base_key,
                               size_t base_key_len);

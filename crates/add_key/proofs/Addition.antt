@@ -5,7 +5,7 @@ use mathlib.Core.List.{List, [], _∷_}
 use Prim.Native.Nat.{ℕ, _<_, _≤_}
 use lib.ListN.{length, getD, set}
 use borrow.Author.Tests.{le-leb, lt-leb}
-use Rattle.answers.specs.Answers.{done, storeInvalid, suiteUnknown, baseKeySize, kidHeld, storeFull, _if_, first, Outcome, settled}
+use Rattle.answers.specs.Answers.{done, storeInvalid, suiteUnknown, sendingBarred, baseKeySize, kidHeld, storeFull, _if_, first, Outcome, settled}
 use Rattle.answers.specs.Limits.{baseKeyLeast, baseKeyMost}
 use Rattle.suites.specs.Suites.{numberOf}
 use Rattle.suites.specs.declared.sizes.Suite.{Suite}
@@ -25,7 +25,7 @@ use Rattle.key_record.specs.declared.Role.the-variants.{Sending, Receiving}
 use Rattle.answers.proofs.Basics.{told-false, told-true}
 use Rattle.store.proofs.Tables.{fill-at}
 use Rattle.key_record.proofs.KindLaws.{holds-some}
-use Rattle.add_key.specs.Add.{added, addCauses, addAt, add}
+use Rattle.add_key.specs.Add.{barred, added, addCauses, addAt, add}
 
 -- the record of a new key is the one that the definition adds
 fresh-added : (role : Role) (s : Suite) (kid : ℕ) (base : List ℕ) → fresh role s kid base ≡ added sframe role kid (numberOf s) base
@@ -59,10 +59,14 @@ module _ (cipher : Cipher) (s : List ℕ) (role : Role) (kid suite : ℕ) (base 
     unfolding add addAt addCauses first settled
     add-suite u = (rw (is-sound, u), rw (is-sound, u))
 
-    module _ (u : isSuite suite ≡ true) where
+    pub add-barred : isSuite suite ≡ true → barred role suite ≡ true → Answers sendingBarred s (add cipher s role kid suite base)
+    unfolding add addAt addCauses first settled
+    add-barred u a = (rw (is-sound, u, a), rw (is-sound, u, a))
+
+    module _ (u : isSuite suite ≡ true) (a : barred role suite ≡ false) where
       pub add-short : length base < baseKeyLeast → Answers baseKeySize s (add cipher s role kid suite base)
       unfolding add addAt addCauses first settled
-      add-short h = let b = lt-leb baseKeyLeast (length base) h in (rw (is-sound, u, b), rw (is-sound, u, b))
+      add-short h = let b = lt-leb baseKeyLeast (length base) h in (rw (is-sound, u, a, b), rw (is-sound, u, a, b))
 
       module _ (h : baseKeyLeast ≤ length base) where
         pub add-long : baseKeyMost < length base → Answers baseKeySize s (add cipher s role kid suite base)
@@ -70,14 +74,14 @@ module _ (cipher : Cipher) (s : List ℕ) (role : Role) (kid suite : ℕ) (base 
         add-long k =
             let b = le-leb baseKeyLeast (length base) h in
             let c = lt-leb (length base) baseKeyMost k in
-            (rw (is-sound, u, b, c), rw (is-sound, u, b, c))
+            (rw (is-sound, u, a, b, c), rw (is-sound, u, a, b, c))
 
         module _ (k : length base ≤ baseKeyMost) (p : Place) (f : FoundIn p kid (records s)) where
           -- what Add comes to once these are judged
           outcome-of : (free whole : Bool) → isEmpty (get kid (records s)) ≡ free → full (records s) ≡ whole
               → add cipher s role kid suite base ≡ settled (first ((kidHeld if not free) ∷ (storeFull if whole) ∷ [])) s [] (stored (encodeAll (fill (added cipher role kid suite base) (records s))))
           unfolding add addAt addCauses first
-          outcome-of free whole g q = rw (is-sound, u, le-leb baseKeyLeast (length base) h, le-leb (length base) baseKeyMost k, g, q)
+          outcome-of free whole g q = rw (is-sound, u, a, le-leb baseKeyLeast (length base) h, le-leb (length base) baseKeyMost k, g, q)
 
           pub add-held : (i : ℕ) → p ≡ At i → Answers kidHeld s (add cipher s role kid suite base)
           unfolding first settled
@@ -95,8 +99,8 @@ module _ (cipher : Cipher) (s : List ℕ) (role : Role) (kid suite : ℕ) (base 
 
             pub add-done : (i : ℕ) → v ≡ At i → (x : List ℕ) → x ≡ encodeAll (set (records s) i (added cipher role kid suite base)) → Answers done x (add cipher s role kid suite base)
             unfolding first settled
-            add-done i z x a =
+            add-done i z x c =
                 let g : FreeIn (At i) (records s) = rw z at d in
                 let m = fill-at (added cipher role kid suite base) (records s) i g in
                 let y = answers _ _ (outcome-of true false nowhere (m .1)) in
-                (y .0, a ∙ ap encodeAll (sym (m .0)) ∙ y .1)
+                (y .0, c ∙ ap encodeAll (sym (m .0)) ∙ y .1)

@@ -1,6 +1,6 @@
 -- What adding a key does to the table. Assumes nothing.
 use mathlib.Core.Path.{_≡_, refl, sym, _∙_, ap, ap₂}
-use mathlib.Core.Bool.{Bool, true, not}
+use mathlib.Core.Bool.{Bool, true, false, not}
 use mathlib.Core.List.{List, [], _∷_}
 use Prim.Native.Nat.{ℕ, _^_, _<_}
 use native.Mathlib.Omega.{arith}
@@ -8,7 +8,7 @@ use lib.Dec.{leb}
 use lib.ListN.{length}
 use borrow.Author.Tests.{eq-eqb, not-false}
 use Rattle.octets.specs.Octets.{Octets, both}
-use Rattle.answers.specs.Answers.{storeInvalid, suiteUnknown, baseKeySize, kidHeld, storeFull, _if_, Outcome}
+use Rattle.answers.specs.Answers.{storeInvalid, suiteUnknown, sendingBarred, baseKeySize, kidHeld, storeFull, _if_, Outcome}
 use Rattle.answers.specs.Limits.{baseKeyLeast, baseKeyMost}
 use Rattle.answers.proofs.Basics.{Settled, success, refusal, settle}
 use Rattle.store.specs.Calls.{stored}
@@ -23,7 +23,7 @@ use Rattle.store.proofs.CipherLaws.{Laws}
 use Rattle.key_record.proofs.Codec.{Secret, Fit}
 use Rattle.store.proofs.Stores.{Stored, stored-sound, stored-records, Change, fill-change}
 use Rattle.store.proofs.Tables.{empty-is}
-use Rattle.add_key.specs.Add.{added, addCauses, addAt, add}
+use Rattle.add_key.specs.Add.{barred, added, addCauses, addAt, add}
 
 added-holds : (cipher : Cipher) (role : Role) (kid suite : ℕ) (base : List ℕ) → holds kid (added cipher role kid suite base) ≡ true
 unfolding holds added
@@ -31,7 +31,7 @@ added-holds cipher Sending kid suite base = eq-eqb kid kid refl
 added-holds cipher Receiving kid suite base = eq-eqb kid kid refl
 
 pub data AddStep (cipher : Cipher) (s : List ℕ) (rs : List KeyRecord) (role : Role) (kid suite : ℕ) (base : List ℕ) (o : Outcome) : Type 0 where
-  done : o .number ≡ 0 → isSuite suite ≡ true → get kid rs ≡ empty
+  done : o .number ≡ 0 → isSuite suite ≡ true → barred role suite ≡ false → get kid rs ≡ empty
       → Change kid (added cipher role kid suite base) rs (fill (added cipher role kid suite base) rs)
       → Stored (o .store) (fill (added cipher role kid suite base) rs) → AddStep cipher s rs role kid suite base o
   refused : (o .number ≡ 0 → ⊥) → o .store ≡ s → AddStep cipher s rs role kid suite base o
@@ -67,9 +67,9 @@ module _ (cipher : Cipher) (laws : Laws cipher) where
         by o (refusal d r) = refused (λ e. d (sym (r .number-is) ∙ e)) (r .store-stays)
         by o (success p q) =
             let known : isSuite suite ≡ true = not-false (isSuite suite) (p .1 .0) in
-            let free : isEmpty (get kid rs) ≡ true = not-false (isEmpty (get kid rs)) (p .1 .1 .1 .0) in
-            let c = fill-change kid rs (t .table) new (added-fit role kid suite base h b known) (added-holds cipher role kid suite base) free (p .1 .1 .1 .1 .0) in
-            done (ap (λ (x : Outcome). x .number) q) known (empty-is (get kid rs) free) c
+            let free : isEmpty (get kid rs) ≡ true = not-false (isEmpty (get kid rs)) (p .1 .1 .1 .1 .0) in
+            let c = fill-change kid rs (t .table) new (added-fit role kid suite base h b known) (added-holds cipher role kid suite base) free (p .1 .1 .1 .1 .1 .0) in
+            done (ap (λ (x : Outcome). x .number) q) known (p .1 .1 .0) (empty-is (get kid rs) free) c
             (record { table = c .table; bytes-are = sym (ap (λ (x : Outcome). x .store) q) })
 
 -- ---- the list of causes
@@ -79,6 +79,7 @@ pub add-causes-are : (valid : Bool) (role : Role) (held : KeyRecord) (rs : List 
     → addCauses valid role suite (length base) held rs
     ≡ (storeInvalid if not valid)
     ∷ (suiteUnknown if not (isSuite suite))
+    ∷ (sendingBarred if barred role suite)
     ∷ (baseKeySize if not (both (leb baseKeyLeast (length base)) (leb (length base) baseKeyMost)))
     ∷ (kidHeld if not (isEmpty held))
     ∷ (storeFull if full rs)

@@ -1,14 +1,16 @@
 -- Adding a key: number, length, store and room afterwards, for every input. The causes of refusal stand in the order in which
 -- they are tried.
 -- Assumes nothing.
-use mathlib.Core.Bool.{Bool, not}
+use mathlib.Core.Bool.{Bool, false, not}
 use mathlib.Core.List.{List, [], _∷_}
 use Prim.Native.Nat.{ℕ}
-use lib.Dec.{leb}
+use lib.Dec.{leb, eqb}
 use lib.ListN.{length}
 use Rattle.octets.specs.Octets.{both}
-use Rattle.answers.specs.Answers.{storeInvalid, suiteUnknown, baseKeySize, kidHeld, storeFull, Cause, _if_, first, Outcome, settled}
+use Rattle.answers.specs.Answers.{storeInvalid, suiteUnknown, sendingBarred, baseKeySize, kidHeld, storeFull, Cause, _if_, first, Outcome, settled}
 use Rattle.answers.specs.Limits.{baseKeyLeast, baseKeyMost}
+use Rattle.suites.specs.Suites.{numberOf}
+use Rattle.suites.specs.declared.sizes.Suite.the-variants.{Ctr32}
 use Rattle.store.specs.Calls.{stored}
 use Rattle.store.specs.Cipher.{Cipher}
 use Rattle.key_record.specs.Record.{KeyRecord, sending, receiving, isEmpty}
@@ -18,11 +20,21 @@ use Rattle.store.specs.Table.{get, fill, full}
 use Rattle.key_record.specs.declared.Role.{Role}
 use Rattle.key_record.specs.declared.Role.the-variants.{Sending, Receiving}
 
+-- The suite with tags of 4 bytes, which RFC 9605 warns of (7.5): a new key of it is for receiving alone.
+abbrev pub receiveOnly : ℕ
+receiveOnly = numberOf Ctr32
+
+-- A key of that role and suite is not added. A sending record of that suite which a store already has is not touched by this.
+unfoldable pub barred : (role : Role) (suite : ℕ) → Bool
+barred Sending suite = eqb suite receiveOnly
+barred Receiving suite = false
+
 -- role and suite are what the key is to be added for, held is the record that holds the KID, base the length of the base key
 unfoldable pub addCauses : (valid : Bool) (role : Role) (suite base : ℕ) (held : KeyRecord) (rs : List KeyRecord) → List Cause
 addCauses valid role suite base held rs =
     (storeInvalid if not valid)
     ∷ (suiteUnknown if not (isSuite suite))
+    ∷ (sendingBarred if barred role suite)
     ∷ (baseKeySize if not (both (leb baseKeyLeast base) (leb base baseKeyMost)))
     ∷ (kidHeld if not (isEmpty held))
     ∷ (storeFull if full rs)

@@ -45,6 +45,9 @@ frameShort = 11
 abbrev pub tagDiffers : ℕ
 tagDiffers = 13
 
+abbrev pub sendingBarred : ℕ
+sendingBarred = 17
+
 abbrev pub ratchetKidInvalid : ℕ
 ratchetKidInvalid = 20
 

@@ -31,6 +31,8 @@ pub const ROOM_SHORT: u32 = 12;
 
 pub const TAG_DIFFERS: u32 = 13;
 
+pub const SENDING_BARRED: u32 = 17;
+
 pub const RATCHET_KID_INVALID: u32 = 20;
 
 pub const STEPS_TOO_MANY: u32 = 21;

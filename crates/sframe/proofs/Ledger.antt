@@ -302,7 +302,7 @@ module _ (cipher : Cipher) (laws : Laws cipher) where
     where
       by : AddStep cipher (h .store) (i .table) role kid suite base (add cipher (h .store) role kid suite base) → Inv cipher (step cipher (Add role kid suite base) h)
       by (AddStep.refused d e) = stays cipher h i _ _ e (passed-by _ _ d)
-      by (AddStep.done z known free c st) =
+      by (AddStep.done z known allowed free c st) =
           goes-on cipher h i _ (fill (addedRecord cipher role kid suite base) (i .table)) _ (added (addingOf role kid suite base)) st (happened _ _ z)
           (added-account cipher (i .table) (h .log) (i .account) kid suite base (q .1) (fill (addedRecord cipher role kid suite base) (i .table)) free role c)
   step-keeps (Remove kid) h q i = by (remove-step (h .store) (i .table) (i .is-stored) kid)

@@ -1,4 +1,4 @@
--- A KID that was added for sending is never added again. Assumes nothing.
+-- What no Add of a list is: one of a KID that was added for sending before, or one for sending with the barred suite. Assumes nothing.
 use mathlib.Core.Path.{_≡_, refl, sym, _∙_, ap}
 use mathlib.Core.Bool.{Bool, true, false}
 use mathlib.Core.List.{List, [], _∷_, _++_}
@@ -16,28 +16,32 @@ use Rattle.store.specs.Table.{get}
 use Rattle.key_record.specs.declared.Role.{Role}
 use Rattle.key_record.specs.declared.Role.the-variants.{Sending, Receiving}
 use Rattle.store.proofs.CipherLaws.{Laws}
-use Rattle.add_key.specs.Add.{add}
+use Rattle.add_key.specs.Add.{barred, add}
 use Rattle.add_key.proofs.Adds.{AddStep, add-step}
 use Rattle.seal_frame.specs.Seal.{seal}
 use Rattle.sframe.specs.History.{Call, Add, Remove, Seal, Open, Typed, AllTyped, Adding, Sealing, Event, added, sealed, other, event, History, outcome, step, run, start}
-use Rattle.sframe.specs.Promises.{isSender, senders, NeverAgain}
+use Rattle.sframe.specs.Promises.{isSender, senders, NeverAgain, NoneBarred}
 use Rattle.sframe.proofs.Ledger.{Inv, step-keeps}
 
--- each Add that answered 0, and the events before it: its KID has had no Add for sending
+-- an Add that answered 0, and the events before it: its KID has had no Add for sending, and its suite is not barred
+abbrev New : (role : Role) (kid suite : ℕ) → List Event → Type 0
+New role kid suite log = (senders kid log ≡ []) × (barred role suite ≡ false)
+
+-- of each Add in a list
 abbrev pub Fresh : List Event → Type 0
 Fresh [] = Unit {0}
-Fresh (added a ∷ log) = (senders (a .kid) log ≡ []) × Fresh log
+Fresh (added a ∷ log) = New (a .role) (a .kid) (a .suite) log × Fresh log
 Fresh (sealed x ∷ log) = Fresh log
 Fresh (other ∷ log) = Fresh log
 
 module _ (cipher : Cipher) (laws : Laws cipher) where
   fresh-add : (h : History) (role : Role) (kid suite : ℕ) (base : List ℕ) → kid < 2 ^ 64 → Octets base → Inv cipher h → add cipher (h .store) role kid suite base .number ≡ 0
-      → senders kid (h .log) ≡ []
+      → New role kid suite (h .log)
   fresh-add h role kid suite base a b i e = by (add cipher (h .store) role kid suite base) e (add-step cipher laws (h .store) (i .table) (i .is-stored) role kid suite base a b)
     where
-      by : (o : Outcome) → o .number ≡ 0 → AddStep cipher (h .store) (i .table) role kid suite base o → senders kid (h .log) ≡ []
+      by : (o : Outcome) → o .number ≡ 0 → AddStep cipher (h .store) (i .table) role kid suite base o → New role kid suite (h .log)
       by o z (AddStep.refused d s) = absurd (d z)
-      by o z (AddStep.done n k g c st) = rw g at (i .account .ledger kid)
+      by o z (AddStep.done n k allowed g c st) = (rw g at (i .account .ledger kid), allowed)
 
   fresh-step : (c : Call) (h : History) → Typed c → Inv cipher h → Fresh (h .log) → Fresh (step cipher c h .log)
   unfolding step outcome event
@@ -78,11 +82,14 @@ among kid (added a ∷ l) earlier b r k e = by (two (isSender kid a (a .role))) 
 among kid (sealed x ∷ l) earlier b r k e = among kid l earlier b r k e
 among kid (other ∷ l) earlier b r k e = among kid l earlier b r k e
 
-fresh-at : (later rest : List Event) (a : Adding) → Fresh (later ++ (added a ∷ rest)) → senders (a .kid) rest ≡ []
+fresh-at : (later rest : List Event) (a : Adding) → Fresh (later ++ (added a ∷ rest)) → New (a .role) (a .kid) (a .suite) rest
 fresh-at [] rest a p = p .0
 fresh-at (added x ∷ later) rest a p = fresh-at later rest a (p .1)
 fresh-at (sealed x ∷ later) rest a p = fresh-at later rest a p
 fresh-at (other ∷ later) rest a p = fresh-at later rest a p
 
 pub fresh-never : (log : List Event) → Fresh log → NeverAgain log
-fresh-never log p later between earlier a b e r k = among (a .kid) between earlier b r (sym k) (fresh-at later (between ++ (added b ∷ earlier)) a (rw e at p))
+fresh-never log p later between earlier a b e r k = among (a .kid) between earlier b r (sym k) (fresh-at later (between ++ (added b ∷ earlier)) a (rw e at p) .0)
+
+pub fresh-allowed : (log : List Event) → Fresh log → NoneBarred log
+fresh-allowed log p later earlier a e = fresh-at later earlier a (rw e at p) .1

@@ -35,7 +35,7 @@ module _ (cipher : Cipher) (laws : Laws cipher) where
   call-sound (Add role kid suite base) s q o e = by (add cipher s role kid suite base) (add-step cipher laws s (records s) (sound-stored s o e) role kid suite base (q .0) (q .1))
     where
       by : (x : Outcome) → AddStep cipher s (records s) role kid suite base x → Octets (x .store) × (sound (x .store) ≡ true)
-      by x (AddStep.done z k f c t) = sound-bytes (x .store) _ t
+      by x (AddStep.done z k a f c t) = sound-bytes (x .store) _ t
       by x (AddStep.refused d p) = rw p (o, e)
   call-sound (Remove kid) s q o e = by (remove s kid) (remove-step s (records s) (sound-stored s o e) kid)
     where

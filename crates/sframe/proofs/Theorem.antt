@@ -14,13 +14,13 @@ use Rattle.key_record.specs.Record.{ReceivingKey}
 use Rattle.store.specs.Store.{sound}
 use Rattle.seal_frame.specs.Seal.{seal}
 use Rattle.open_frame.specs.Open.{opening}
-use Rattle.sframe.specs.Promises.{Kept, NeverAgain, Openable, OpensExactly, Alike, SameAnswer, Unchanged}
+use Rattle.sframe.specs.Promises.{Kept, NeverAgain, NoneBarred, Openable, OpensExactly, Alike, SameAnswer, Unchanged}
 use Rattle.store.specs.Sframe.{sframe}
 use Rattle.sframe.specs.History.{Call, Typed, AllTyped, outcome, run, start}
 use Rattle.sframe.proofs.Frames.{kept}
 use Rattle.sframe.proofs.Ledger.{run-keeps, start-keeps}
 use Rattle.sframe.proofs.Neighbours.{neighbours-seal, neighbours-open}
-use Rattle.sframe.proofs.Never.{run-fresh, fresh-never}
+use Rattle.sframe.proofs.Never.{Fresh, run-fresh, fresh-never, fresh-allowed}
 use Rattle.sframe.proofs.Opens.{opens-exactly}
 use Rattle.sframe.proofs.Suites.{suites-laws}
 use Rattle.sframe.proofs.Soundness.{made-sound, call-sound, refusal-changes-nothing}
@@ -33,10 +33,17 @@ every-list s made calls typed =
     let i = run-keeps sframe suites-laws calls (start s) typed (start-keeps sframe suites-laws s made) in
     kept sframe suites-laws (run sframe calls (start s) .log) (i .account .frames)
 
+all-fresh : (s : List ℕ) → make s .number ≡ 0 → (calls : List Call) → AllTyped calls → Fresh (run sframe calls (start s) .log)
+unfolding start
+all-fresh s made calls typed = run-fresh sframe suites-laws calls (start s) typed (start-keeps sframe suites-laws s made) tt
+
 -- Over every such list, a KID that was added for sending is not added again, in either role.
 pub never-again : (s : List ℕ) → make s .number ≡ 0 → (calls : List Call) → AllTyped calls → NeverAgain (run sframe calls (start s) .log)
-unfolding start
-never-again s made calls typed = fresh-never (run sframe calls (start s) .log) (run-fresh sframe suites-laws calls (start s) typed (start-keeps sframe suites-laws s made) tt)
+never-again s made calls typed = fresh-never (run sframe calls (start s) .log) (all-fresh s made calls typed)
+
+-- Over every such list, no key for sending is added with the suite of 4-byte tags.
+pub none-barred : (s : List ℕ) → make s .number ≡ 0 → (calls : List Call) → AllTyped calls → NoneBarred (run sframe calls (start s) .log)
+none-barred s made calls typed = fresh-allowed (run sframe calls (start s) .log) (all-fresh s made calls typed)
 
 -- Opening succeeds exactly when the frame is the RFC's encryption of some plaintext, and yields that plaintext.
 pub opening-exact : (s metadata bytes room : List ℕ) (r : ReceivingKey) (ctr n : ℕ) → Openable sframe s metadata bytes room r ctr n → OpensExactly sframe s metadata bytes room r ctr n

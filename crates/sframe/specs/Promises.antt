@@ -16,6 +16,7 @@ use Rattle.store.specs.Cipher.{Cipher}
 use Rattle.key_record.specs.Record.{ReceivingKey, empty, receiving, holds}
 use Rattle.store.specs.Store.{records, sound}
 use Rattle.answers.specs.Limits.{maxPlaintext, maxMetadata}
+use Rattle.add_key.specs.Add.{barred}
 use Rattle.open_frame.specs.Open.{opening}
 use Rattle.seal_frame.specs.Frame.{frameWith, frame}
 use Rattle.key_record.specs.Suites.{tagSize}
@@ -138,6 +139,10 @@ module _ (cipher : Cipher) where
 -- events stand the newest first, so b came before a.
 abbrev pub NeverAgain : List Event → Type 0
 NeverAgain log = (later between earlier : List Event) (a b : Adding) → log ≡ later ++ (added a ∷ (between ++ (added b ∷ earlier))) → b .role ≡ Sending → a .kid ≡ b .kid → ⊥
+
+-- "None is barred": no Add for sending with the suite of 4-byte tags answered 0, so no frame was sealed under one.
+abbrev pub NoneBarred : List Event → Type 0
+NoneBarred log = (later earlier : List Event) (a : Adding) → log ≡ later ++ (added a ∷ earlier) → barred (a .role) (a .suite) ≡ false
 
 -- ---- neighbours in one store
 

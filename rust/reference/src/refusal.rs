@@ -29,6 +29,8 @@ pub enum Refusal {
     RoomShort = 12,
     /// The tag differs.
     TagDiffers = 13,
+    /// Suite 3, whose tags have four bytes, is not for sending.
+    SendingBarred = 17,
     /// The bits of the step are not 1 to 16, or the KID is past 64 bits.
     BadRatchetKid = 20,
     /// More than 64 steps.

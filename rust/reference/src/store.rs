@@ -38,10 +38,13 @@ pub fn make(store: &mut [u8]) -> Answer {
     Ok(0)
 }
 
-/// Adds a key in the first empty record. Refusals: 1, 2, 3, 4, 5.
+/// Adds a key in the first empty record. Refusals: 1, 2, 17, 3, 4, 5.
 pub fn add(store: &mut [u8], role: Role, suite: u64, kid: u64, base_key: &[u8]) -> Answer {
     let records = read_store(store)?;
     let suite = Suite::from_number(suite).ok_or(Refusal::NoSuchSuite)?;
+    if role == Role::Sending && suite == Suite::Aes128CtrHmacSha256_32 {
+        return Err(Refusal::SendingBarred);
+    }
     if !(MIN_BASE_KEY..=MAX_BASE_KEY).contains(&base_key.len()) {
         return Err(Refusal::BaseKeyLength);
     }
@@ -60,6 +63,21 @@ pub fn add(store: &mut [u8], role: Role, suite: u64, kid: u64, base_key: &[u8]) 
     let record = Record::new(state, suite, kid, base_key);
     write_record(store, place, Some(record));
     Ok(0)
+}
+
+/// Writes a record over the first empty one of a store, by no rule of adding: a
+/// store may hold a sending key of suite 3 from before it was barred.
+///
+/// # Panics
+///
+/// Where no record is empty.
+pub fn put(store: &mut [u8], record: Record) {
+    let empty = |bytes: &[u8]| bytes.iter().all(|&byte| byte == 0);
+    let place = store
+        .chunks_exact(RECORD)
+        .position(empty)
+        .expect("an empty record");
+    write_record(store, place, Some(record));
 }
 
 /// Removes a key: a receiving one leaves its record empty, a sending one leaves

@@ -1,7 +1,7 @@
 //! The store and its calls: every refusal, the edges, and a list of calls.
 
 use reference::record::{Record, State, MAX_COUNTER, RECORD};
-use reference::refusal::{Answer, Refusal, Refusal::*};
+use reference::refusal::{number_and_length, Answer, Refusal, Refusal::*};
 use reference::store::*;
 use reference::suites::{Suite, SUITES};
 use testkit::{sframe_vectors, Generator};
@@ -14,12 +14,33 @@ fn made(records: usize) -> Vec<u8> {
     store
 }
 
+/// A made store of one sending key. One of suite 3, which is not added, stands
+/// there as a record from before.
+fn sender(suite: Suite, kid: u64, base_key: &[u8]) -> Vec<u8> {
+    let mut store = made(1);
+    match add(&mut store, Role::Sending, suite.number(), kid, base_key) {
+        Err(SendingBarred) => {
+            let record = Record::new(State::Sending, suite, kid, base_key);
+            put(&mut store, record);
+        }
+        added => assert_eq!(added, Ok(0)),
+    }
+    store
+}
+
 /// A store of three records: KID 1 sending, KID 2 receiving, KID 3 retired.
 fn filled(suite: Suite) -> Vec<u8> {
-    let mut store = made(3);
-    for (role, kid) in [(Role::Sending, 1), (Role::Receiving, 2), (Role::Sending, 3)] {
-        add(&mut store, role, suite.number(), kid, &BASE_KEY).unwrap();
-    }
+    let mut receiving = made(1);
+    add(
+        &mut receiving,
+        Role::Receiving,
+        suite.number(),
+        2,
+        &BASE_KEY,
+    )
+    .unwrap();
+    let [first, third] = [1, 3].map(|kid| sender(suite, kid, &BASE_KEY));
+    let mut store = [first, receiving, third].concat();
     remove(&mut store, 3).unwrap();
     store
 }
@@ -58,19 +79,11 @@ fn make_takes_1_to_64_records() {
 #[test]
 fn published_frames() {
     for case in sframe_vectors() {
-        let suite = case.number("cipher_suite");
+        let suite = Suite::from_number(case.number("cipher_suite")).unwrap();
         let (kid, ctr) = (case.number("kid"), case.number("ctr"));
         let (metadata, plaintext) = (case.bytes("metadata"), case.bytes("pt"));
 
-        let mut sender = made(1);
-        add(
-            &mut sender,
-            Role::Sending,
-            suite,
-            kid,
-            &case.bytes("base_key"),
-        )
-        .unwrap();
+        let mut sender = sender(suite, kid, &case.bytes("base_key"));
         set_counter(&mut sender, ctr);
         let frame = seal_to_vec(&mut sender, kid, &metadata, &plaintext);
         assert_eq!(frame, case.bytes("ct"));
@@ -79,7 +92,7 @@ fn published_frames() {
         add(
             &mut receiver,
             Role::Receiving,
-            suite,
+            suite.number(),
             kid,
             &case.bytes("base_key"),
         )
@@ -188,6 +201,10 @@ fn add_refuses_in_order() {
     refused(&store, NoSuchSuite, call(0, 1, 0), 0);
     refused(&store, NoSuchSuite, call(6, 1, 0), 0);
     refused(&store, NoSuchSuite, call(1 << 32 | 1, 1, 0), 0);
+    refused(&unsound, StoreNotSound, call(3, 1, 0), 0);
+    for (kid, length) in [(1, 15), (1, 65), (1, 16), (4, 16)] {
+        refused(&store, SendingBarred, call(3, kid, length), 0);
+    }
     refused(&store, BaseKeyLength, call(1, 1, 15), 0);
     refused(&store, BaseKeyLength, call(1, 1, 65), 0);
     for kid in 1..=3 {
@@ -215,6 +232,18 @@ fn base_keys_of_16_to_64_bytes() {
     for length in 0..=80 {
         let answer = add(&mut made(1), Role::Sending, 5, 0, &vec![1; length]);
         assert_eq!(answer.is_ok(), (16..=64).contains(&length));
+    }
+}
+
+#[test]
+fn one_suite_is_for_receiving_alone() {
+    for suite in SUITES {
+        let barred = suite.nt() == 4;
+        for (role, number) in [(Role::Sending, 17), (Role::Receiving, 0)] {
+            let answer = add(&mut made(1), role, suite.number(), 1, &BASE_KEY);
+            let expected = if barred { number } else { 0 };
+            assert_eq!(number_and_length(answer), (expected, 0));
+        }
     }
 }
 

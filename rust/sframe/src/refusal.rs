@@ -48,6 +48,9 @@ pub enum Refusal {
     /// The frame was not sealed under this key and with this metadata, or it
     /// has changed on its way.
     TagDiffers = 13,
+    /// The suite's tags have 4 bytes, and no new key of it is for sending; a
+    /// sending one that a store already has goes on.
+    SendingBarred = 17,
     /// The bits of the step in a key number are not 1 to 16, or the key number
     /// does not fit in 64 bits.
     BadRatchetKid = 20,
@@ -59,7 +62,7 @@ use Refusal::*;
 
 impl Refusal {
     /// Every refusal, by rising number.
-    pub const ALL: [Refusal; 15] = [
+    pub const ALL: [Refusal; 16] = [
         StoreNotSound,
         NoSuchSuite,
         BaseKeyLength,
@@ -73,6 +76,7 @@ impl Refusal {
         FrameShort,
         RoomShort,
         TagDiffers,
+        SendingBarred,
         BadRatchetKid,
         TooManySteps,
     ];
@@ -119,6 +123,7 @@ impl fmt::Display for Refusal {
             FrameShort => "the frame is too short to hold a tag",
             RoomShort => "the room is too short for the result",
             TagDiffers => "the tag does not match",
+            SendingBarred => "no key is added for sending with suite 3: its tags have 4 bytes",
             BadRatchetKid => "a step has 1 to 16 bits, and the key number must fit in 64",
             TooManySteps => "a key is walked at most 64 steps at once",
         })

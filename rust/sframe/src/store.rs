@@ -125,11 +125,25 @@ impl<'a> Store<'a> {
     /// empty record.
     ///
     /// A key number that was added for sending is never added again in this
-    /// store, so that its counters do not start anew.
+    /// store, so that its counters do not start anew. The suite whose tags have 4
+    /// bytes is for receiving alone.
     ///
     /// Refusals, the first that holds: [`StoreNotSound`](Refusal::StoreNotSound),
+    /// [`SendingBarred`](Refusal::SendingBarred),
     /// [`BaseKeyLength`](Refusal::BaseKeyLength), [`KidHeld`](Refusal::KidHeld),
     /// [`StoreFull`](Refusal::StoreFull).
+    ///
+    /// ```
+    /// use sframe::{Kid, Refusal, Role, Store, Suite};
+    ///
+    /// let mut bytes = [0; 80];
+    /// let mut store = Store::make(&mut bytes)?;
+    /// let suite = Suite::Aes128CtrHmacSha256_32;
+    /// let refused = store.add(Role::Sending, suite, Kid(200), &[7; 16]);
+    /// assert_eq!(refused, Err(Refusal::SendingBarred));
+    /// store.add(Role::Receiving, suite, Kid(200), &[7; 16])?;
+    /// # Ok::<(), Refusal>(())
+    /// ```
     pub fn add(
         &mut self,
         role: Role,

@@ -30,7 +30,8 @@ pub enum Suite {
     Aes128CtrHmacSha256_80 = 1,
     /// AES-128 in counter mode, HMAC-SHA256 with a tag of 64 bits.
     Aes128CtrHmacSha256_64 = 2,
-    /// AES-128 in counter mode, HMAC-SHA256 with a tag of 32 bits.
+    /// AES-128 in counter mode, HMAC-SHA256 with a tag of 32 bits. No new key of
+    /// this suite is for sending.
     Aes128CtrHmacSha256_32 = 3,
     /// AES-128 in Galois/counter mode, keys from SHA-256.
     Aes128GcmSha256_128 = 4,

@@ -33,6 +33,7 @@ fn refusals() {
         "FRAME_SHORT",
         "ROOM_SHORT",
         "TAG_DIFFERS",
+        "SENDING_BARRED",
         "RATCHET_KID_INVALID",
         "TOO_MANY_STEPS",
     ];

@@ -1,5 +1,7 @@
 //! The typed calls, beside the raw ones that they stand on.
 
+use reference::record::{Record, State as ReferenceState};
+use reference::suites::Suite as ReferenceSuite;
 use sframe::{
     frame_room, raw, Ctr, Kid, Metadata, Refusal, Role, State, Store, StoreView, Suite,
     MAX_COUNTER, MAX_METADATA, MAX_PLAINTEXT, MAX_RECORDS, RECORD,
@@ -8,19 +10,29 @@ use sframe::{
 const KID: Kid = Kid(200);
 const BASE_KEY: [u8; 16] = [7; 16];
 
-/// A store that sends under [`KID`], and one that receives it.
+/// A store that sends under [`KID`], and one that receives it. A sender of suite
+/// 3, which no adding gives, is the record of an older store.
 fn stores(suite: Suite) -> ([u8; 2 * RECORD], [u8; 2 * RECORD]) {
     let (mut ward, mut doctor) = ([0; 2 * RECORD], [0; 2 * RECORD]);
     for (bytes, role) in [(&mut ward, Role::Sending), (&mut doctor, Role::Receiving)] {
         let mut store = Store::make(bytes).unwrap();
-        store.add(role, suite, KID, &BASE_KEY).unwrap();
+        match store.add(role, suite, KID, &BASE_KEY) {
+            Err(Refusal::SendingBarred) => put_sender(bytes, suite),
+            added => added.unwrap(),
+        }
     }
     (ward, doctor)
 }
 
+fn put_sender(bytes: &mut [u8], suite: Suite) {
+    let suite = ReferenceSuite::from_number(suite.number()).unwrap();
+    let record = Record::new(ReferenceState::Sending, suite, KID.0, &BASE_KEY);
+    reference::store::put(bytes, record);
+}
+
 #[test]
 fn numbers_and_names_of_refusals() {
-    let numbers = (1..=13).chain([20, 21]);
+    let numbers = (1..=13).chain([17, 20, 21]);
     assert_eq!(numbers.clone().count(), Refusal::ALL.len());
     for (number, refusal) in numbers.zip(Refusal::ALL) {
         assert_eq!(refusal.number(), number);
@@ -28,7 +40,7 @@ fn numbers_and_names_of_refusals() {
         let same = |other: &&Refusal| other.to_string() == refusal.to_string();
         assert_eq!(Refusal::ALL.iter().filter(same).count(), 1);
     }
-    for number in [0, 14, 19, 22, 256 + 1, u32::MAX] {
+    for number in [0, 14, 16, 18, 19, 22, 256 + 1, u32::MAX] {
         assert_eq!(Refusal::from_number(number), None);
     }
 }
@@ -165,6 +177,32 @@ fn debug_shows_no_key() {
         format!("{:?}", Store::over(&mut ward)),
         "Store of 160 bytes"
     );
+}
+
+/// One suite is for receiving alone. The sender that an older store holds goes on
+/// to its end, and then its key number is taken like any other's.
+#[test]
+fn one_suite_is_not_added_for_sending() {
+    let mut bytes = [0; RECORD];
+    for suite in Suite::ALL {
+        let barred = suite == Suite::Aes128CtrHmacSha256_32;
+        let answer = Store::make(&mut bytes)
+            .unwrap()
+            .add(Role::Sending, suite, KID, &BASE_KEY);
+        assert_eq!(answer == Err(Refusal::SendingBarred), barred, "{suite}");
+    }
+
+    let suite = Suite::Aes128CtrHmacSha256_32;
+    let (mut ward, doctor) = stores(suite);
+    let mut ward = Store::over(&mut ward);
+    let frame = ward.seal_to_vec(KID, Metadata::NONE, b"").unwrap();
+    assert_eq!(frame.len(), 2 + 4);
+    let view = StoreView::over(&doctor);
+    assert_eq!(view.open_to_vec(&frame, Metadata::NONE), Ok(vec![]));
+    ward.remove(KID).unwrap();
+    assert_eq!(ward.records().unwrap()[0].state, State::Retired);
+    let again = ward.add(Role::Receiving, suite, KID, &BASE_KEY);
+    assert_eq!(again, Err(Refusal::KidHeld));
 }
 
 #[test]

@@ -14,6 +14,7 @@ pub use header::{compare_read_header, compare_write_header, forms};
 pub use ratchet::{compare_kid, compare_walk};
 pub use stores::{
     after, done, frame, frame_with, made, retire, set_counter, with_key, Key, ANY_KEY, COUNTER_AT,
+    RECEIVE_ONLY,
 };
 
 /// The numbers of the refusals.
@@ -33,6 +34,7 @@ pub mod number {
     pub const FRAME_SHORT: u32 = 11;
     pub const ROOM_SHORT: u32 = 12;
     pub const TAG_DIFFERS: u32 = 13;
+    pub const SENDING_BARRED: u32 = 17;
     pub const BAD_RATCHET_KID: u32 = 20;
     pub const TOO_MANY_STEPS: u32 = 21;
 }

@@ -1,9 +1,11 @@
 //! Stores and frames for the tests.
 
-use crate::number::DONE;
+use crate::number::{DONE, SENDING_BARRED};
 use crate::{compare, Call, Outcome};
 use reference::aead::Aead;
 use reference::header::write_header;
+use reference::record::{Record, State};
+use reference::store::put;
 use reference::suites::{nonce, Suite};
 use sframe::{Role, RECORD};
 use testkit::PATTERN;
@@ -13,6 +15,9 @@ pub const COUNTER_AT: usize = 12;
 
 /// A base key where any will do.
 pub const ANY_KEY: [u8; 16] = [7; 16];
+
+/// The suite that no key is added for sending with.
+pub const RECEIVE_ONLY: Suite = Suite::Aes128CtrHmacSha256_32;
 
 /// What both ends of a call agree on.
 #[derive(Clone)]
@@ -66,9 +71,17 @@ pub fn made(records: usize) -> Vec<u8> {
     after(&vec![PATTERN; records * RECORD], Call::Make)
 }
 
-/// `store` with a key added.
+/// `store` with a key added. A sender of [`RECEIVE_ONLY`] is refused, and then
+/// written as the record that an older store has.
 #[track_caller]
 pub fn with_key(store: &[u8], role: Role, key: &Key) -> Vec<u8> {
+    if role == Role::Sending && key.suite == RECEIVE_ONLY {
+        assert_eq!(compare(store, key.add(role)).number, SENDING_BARRED);
+        let mut store = store.to_vec();
+        let record = Record::new(State::Sending, key.suite, key.kid, &key.base_key);
+        put(&mut store, record);
+        return store;
+    }
     after(store, key.add(role))
 }
 

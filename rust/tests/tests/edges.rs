@@ -2,7 +2,9 @@
 //! first that is refused.
 
 use comparison::number::*;
-use comparison::{after, compare, done, frame, made, set_counter, with_key, Call, Key};
+use comparison::{
+    after, compare, done, frame, made, retire, set_counter, with_key, Call, Key, RECEIVE_ONLY,
+};
 use reference::suites::SUITES;
 use sframe::{Role, MAX_COUNTER, MAX_METADATA, MAX_PLAINTEXT, MAX_RECORDS, MIN_BASE_KEY, RECORD};
 
@@ -218,8 +220,11 @@ fn base_keys_of_16_to_64_bytes() {
                     kid: KID,
                     base_key: bytes[..length].to_vec(),
                 };
-                let accepted = (MIN_BASE_KEY..=64).contains(&length);
-                let number = if accepted { DONE } else { BASE_KEY_LENGTH };
+                let number = match role {
+                    Role::Sending if suite == RECEIVE_ONLY => SENDING_BARRED,
+                    _ if (MIN_BASE_KEY..=64).contains(&length) => DONE,
+                    _ => BASE_KEY_LENGTH,
+                };
                 assert_eq!(compare(&made(1), key.add(role)).number, number, "{length}");
             }
         }
@@ -236,10 +241,51 @@ fn suites_1_to_5() {
                 kid: KID,
                 base_key: &[7; 16],
             };
-            let accepted = (1..=5).contains(&suite);
-            let number = if accepted { DONE } else { NO_SUCH_SUITE };
+            let number = match (suite, role) {
+                (3, Role::Sending) => SENDING_BARRED,
+                (1..=5, _) => DONE,
+                _ => NO_SUCH_SUITE,
+            };
             assert_eq!(compare(&made(1), call).number, number, "suite {suite}");
         }
+    }
+}
+
+/// Tags of four bytes: no new key seals with them. One that a store has from
+/// before seals its frames of five bytes up to the last counter, and is retired
+/// like any other; older terminals are received as ever.
+#[test]
+fn the_life_of_a_stored_sender_of_suite_3() {
+    let key = Key::any(RECEIVE_ONLY, KID);
+    let receiver = receiver(&key);
+    let mut store = sender(&key);
+    for counter in [0, 1, 7, 8, MAX_COUNTER - 1] {
+        set_counter(&mut store, 0, counter);
+        let sealed = done(&store, seal(b"", b""));
+        assert_eq!(sealed.result(), frame(&key, counter, b"", b""));
+        if counter < 8 {
+            assert_eq!(sealed.length, 5);
+        }
+        let opening = Call::Open {
+            frame: sealed.result(),
+            metadata: b"",
+            room: 0,
+        };
+        done(&receiver, opening);
+        store = sealed.store;
+    }
+    assert_eq!(compare(&store, seal(b"", b"")).number, COUNTER_SPENT);
+
+    let left = after(&store, Call::Remove { kid: KID });
+    assert_eq!(left[0], 3);
+    for store in [left, retire(&made(1), &key)] {
+        assert_eq!(compare(&store, seal(b"", b"")).number, WRONG_ROLE);
+        let kept = Call::Remove { kid: KID };
+        assert_eq!(compare(&store, kept).number, WRONG_ROLE);
+        let again = |suite, role| compare(&store, Key::any(suite, KID).add(role)).number;
+        assert_eq!(again(RECEIVE_ONLY, Role::Sending), SENDING_BARRED);
+        assert_eq!(again(RECEIVE_ONLY, Role::Receiving), KID_HELD);
+        assert_eq!(again(SUITES[0], Role::Sending), KID_HELD);
     }
 }
 

@@ -7,7 +7,7 @@
 mod list;
 
 use comparison::number::*;
-use comparison::{compare, Call};
+use comparison::{compare, Call, RECEIVE_ONLY};
 use list::{Tally, Terminal};
 use testkit::Generator;
 
@@ -20,8 +20,14 @@ fn two_terminals() {
     let mut tally = Tally::default();
     for round in 0..100 {
         let records = RECORDS[round % RECORDS.len()];
+        let older = round % 4 == 3;
+        let first = if older {
+            Terminal::older
+        } else {
+            Terminal::new
+        };
         let mut terminals = [
-            Terminal::new(&mut tally, records),
+            first(&mut tally, records),
             Terminal::new(&mut tally, *generator.pick(&RECORDS)),
         ];
         for _ in 0..3_000 {
@@ -37,6 +43,9 @@ fn two_terminals() {
         for terminal in &terminals {
             terminal.check_sealed();
         }
+        // No key that was added seals with tags of four bytes.
+        let short_tags = terminals.map(|t| t.sealed_under(RECEIVE_ONLY));
+        assert_eq!((short_tags[0] > 0, short_tags[1]), (older, 0));
     }
     println!("{tally}");
     tally.check(400_000);

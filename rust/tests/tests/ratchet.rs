@@ -1,8 +1,8 @@
 //! Base keys that are walked forward, and the key numbers of their steps.
 
 use comparison::number::*;
-use comparison::{after, compare, compare_kid, compare_walk, done, made, Call};
-use reference::suites::SUITES;
+use comparison::{after, compare, compare_kid, compare_walk, done, made, with_key, Call, Key};
+use reference::suites::{Suite, SUITES};
 use sframe::ffi::{sframe_ratchet, sframe_ratchet_kid};
 use sframe::{Role, MAX_BASE_KEY, MAX_RATCHET_BITS, MAX_STEPS, MIN_BASE_KEY};
 use std::ptr::{null, null_mut};
@@ -198,15 +198,12 @@ fn null_pointers_with_no_length() {
 
 #[track_caller]
 fn add(store: &[u8], role: Role, suite: u64, kid: u64, base_key: &[u8]) -> Vec<u8> {
-    after(
-        store,
-        Call::Add {
-            role,
-            suite,
-            kid,
-            base_key,
-        },
-    )
+    let key = Key {
+        suite: Suite::from_number(suite).expect("a suite"),
+        kid,
+        base_key: base_key.to_vec(),
+    };
+    with_key(store, role, &key)
 }
 
 fn seal(kid: u64) -> Call<'static> {

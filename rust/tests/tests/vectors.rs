@@ -6,7 +6,7 @@ use sframe::{Role, RECORD};
 use testkit::sframe_vectors;
 
 /// The counter of the cases is reached by sealing, and no byte of a store is
-/// written by hand.
+/// written by hand but the sender's of suite 3, which is not added.
 #[test]
 fn published_frames() {
     for case in sframe_vectors() {

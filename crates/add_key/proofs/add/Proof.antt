@@ -1,16 +1,21 @@
 use mathlib.Core.Path.{_≡_, refl, sym, _∙_, ap}
+use mathlib.Core.Bool.{true, false}
 use mathlib.Core.List.{List}
 use Prim.Native.Nat.{ℕ}
 use native.Mathlib.Omega.{arith}
 use lib.ListN.{set}
 use borrow.Author.Needs.{needs}
 use Rattle.key_record.specs.Record.{KeyRecord}
-use Rattle.store.specs.Store.{encodeAll, records}
+use Rattle.store.specs.Store.{encodeAll, records, sound}
+use Rattle.key_record.specs.Suites.{isSuite}
+use Rattle.store.specs.inner.Places.{Whole}
 use Rattle.store.specs.Sframe.{sframe}
-use Rattle.store.proofs.Places.{tested-sound, tested-whole, free-within}
+use Rattle.store.proofs.Places.{tested-whole, free-within}
+use Rattle.answers.proofs.Basics.{told-true}
 use Rattle.key_record.proofs.Suites.{suite-named, suite-unnamed}
 use Rattle.suites.proofs.Laws.{number-is}
-use Rattle.add_key.proofs.Addition.{add-unsound, add-suite, add-short, add-long, add-held, add-full, add-done, added-told, free-empty}
+use Rattle.add_key.specs.Add.{barred}
+use Rattle.add_key.proofs.Addition.{add-unsound, add-suite, add-barred, add-short, add-long, add-held, add-full, add-done, added-told, free-empty}
 use Rattle.add_key.proofs.add.Statement.{statement}
 use Rattle.add_key.proofs.add.Tie as tie
 
@@ -22,44 +27,29 @@ to-start-from-is-sound c = c .before .before .before .before
 abbrev to-start-from-then1 : tie.Then1 → tie.Start
 to-start-from-then1 c = c .before .before .before .before .before
 
-abbrev to-slice-known : tie.Else1 → tie.After-slice-known
-to-slice-known c = c .before .before .before .before
-
-abbrev to-start-from-find : tie.After-find → tie.Start
-to-start-from-find c = c .before .before .before .before .before .before
-
 abbrev to-is-sound : tie.After-enum-told → tie.After-is-sound
 to-is-sound c = c .before .before .before .before
 
 abbrev to-find-from-then2 : tie.Then2 → tie.After-find
-to-find-from-then2 c = c .before .before .before .before
+to-find-from-then2 c = c .before .before .before .before .before
 
-abbrev to-find-from-then3 : tie.Then3 → tie.After-find
-to-find-from-then3 c = c .before .before .before .before .before
+abbrev to-find-from-else2 : tie.Else2 → tie.After-find
+to-find-from-else2 c = c .before .before .before .before .before
 
-abbrev to-find-from-else3 : tie.Else3 → tie.After-find
-to-find-from-else3 c = c .before .before .before .before .before
+abbrev to-start-from-find : tie.After-find → tie.Start
+to-start-from-find c = c .before .before .before .before .before .before
 
-abbrev to-else1-from-else3 : tie.Else3 → tie.Else1
-to-else1-from-else3 c = c .before .before .before .before .before .before
+abbrev to-slice-known : tie.After-find → tie.After-slice-known
+to-slice-known c = c .before .before .before .before .before
 
-abbrev to-else1-from-find-arg : tie.After-find-arg → tie.Else1
-to-else1-from-find-arg c = c .before .before .before .before .before .before .before
+abbrev to-else4-from-enum-told3 : tie.After-enum-told3 → tie.Else4
+to-else4-from-enum-told3 c = c .before .before .before .before
 
-abbrev to-else3-from-enum-told2 : tie.After-enum-told2 → tie.Else3
-to-else3-from-enum-told2 c = c .before .before .before .before
+abbrev to-else4-from-find-free-arg : tie.After-find-free-arg → tie.Else4
+to-else4-from-find-free-arg c = c .before .before .before .before .before
 
-abbrev to-else3-from-enum-told3 : tie.After-enum-told3 → tie.Else3
-to-else3-from-enum-told3 c = c .before .before .before .before
-
-abbrev to-else1-from-find-free-arg : tie.After-find-free-arg → tie.Else1
-to-else1-from-find-free-arg c = c .before .before .before .before .before .before .before .before .before .before .before
-
-abbrev to-else3-from-find-free : tie.After-find-free → tie.Else3
-to-else3-from-find-free c = c .before .before .before .before .before .before
-
-abbrev to-enum-told2-from-i : tie.After-i → tie.After-enum-told2
-to-enum-told2-from-i c = c .before .before .before .before
+abbrev to-else4-from-enum-told2 : tie.After-enum-told2 → tie.Else4
+to-else4-from-enum-told2 c = c .before .before .before .before
 
 abbrev to-enum-told2-from-enum-told4 : tie.After-enum-told4 → tie.After-enum-told2
 to-enum-told2-from-enum-told4 c = c .before .before .before .before
@@ -67,80 +57,109 @@ to-enum-told2-from-enum-told4 c = c .before .before .before .before
 abbrev to-find-free : tie.After-fill-at-arg → tie.After-find-free
 to-find-free c = c .before .before .before .before
 
+abbrev to-else4-from-find-free : tie.After-find-free → tie.Else4
+to-else4-from-find-free c = c .before .before .before .before .before .before
+
+abbrev to-enum-told2-from-i : tie.After-i → tie.After-enum-told2
+to-enum-told2-from-i c = c .before .before .before .before
+
 abbrev to-i : tie.After-slice-known2 → tie.After-i
 to-i c = c .before .before .before .before .before
+
+-- ---- what is known once the suite is judged
+
+abbrev start-of : tie.Else2 → tie.Start
+start-of c = to-start-from-find (to-find-from-else2 c)
+
+known-at : (c : tie.Else2) → isSuite (start-of c .args .suite) ≡ true
+known-at c = suite-named _ _ (sym (to-find-from-else2 c .find .ensures) ∙ c .before .before .before .known .given .1)
+
+allowed-at : (c : tie.Else2) → barred (start-of c .args .role) (start-of c .args .suite) ≡ false
+allowed-at c = sym (c .before .is-barred .ensures) ∙ c .if2 .left
+
+sound-at : (c : tie.Else2) → sound (start-of c .args .store .now) ≡ true
+sound-at c = let at-find = to-find-from-else2 c in told-true _ _ (at-find .before .before .is-sound .ensures) (at-find .before .if1 .left)
+
+whole-at : (c : tie.Else2) → Whole (start-of c .args .store .now)
+whole-at c =
+    let at-find = to-find-from-else2 c in
+    let at-slice-known = to-slice-known at-find in
+    tested-whole (at-slice-known .before .args .store .now) (λ j. omega (arith, at-slice-known .slice-known .given j)) _ (at-find .before .before .is-sound .ensures) (at-find .before .if1 .left)
 
 -- ----
 
 returns : tie.Need-returns
 returns c =
-    let at-start = to-start-from-then1 c in
-    add-unsound sframe (at-start .args .store .now) (at-start .args .role) (at-start .args .kid .0) (at-start .args .suite) (at-start .args .base .now) _ (c .before .is-sound .ensures) (c .if1 .taken)
+    let a = to-start-from-then1 c .args in
+    add-unsound sframe (a .store .now) (a .role) (a .kid .0) (a .suite) (a .base .now) _ (c .before .is-sound .ensures) (c .if1 .taken)
 
 returns-2 : tie.Need-returns-2
 returns-2 c =
     let at-is-sound = to-is-sound c in
-    let at-start = to-start-from-is-sound at-is-sound in
-    add-suite sframe (at-start .args .store .now) (at-start .args .role) (at-start .args .kid .0) (at-start .args .suite) (at-start .args .base .now) _ (at-is-sound .is-sound .ensures) (c .before .before .before .if1 .left) (suite-unnamed (at-start .args .suite) (sym (c .before .before .find .ensures) ∙ c .enum-told .given .1))
+    let a = to-start-from-is-sound at-is-sound .args in
+    add-suite sframe (a .store .now) (a .role) (a .kid .0) (a .suite) (a .base .now) _ (at-is-sound .is-sound .ensures) (c .before .before .before .if1 .left) (suite-unnamed (a .suite) (sym (c .before .before .find .ensures) ∙ c .enum-told .given .1))
 
 returns-3 : tie.Need-returns-3
 returns-3 c =
     let at-find = to-find-from-then2 c in
-    let at-start = to-start-from-find at-find in
-    add-short sframe (at-start .args .store .now) (at-start .args .role) (at-start .args .kid .0) (at-start .args .suite) (at-start .args .base .now) _ (at-find .before .before .is-sound .ensures) (at-find .before .if1 .left) (suite-named (at-start .args .suite) _ (sym (at-find .find .ensures) ∙ c .before .before .known .given .1)) (c .if2 .taken)
+    let a = to-start-from-find at-find .args in
+    add-barred sframe (a .store .now) (a .role) (a .kid .0) (a .suite) (a .base .now) _ (at-find .before .before .is-sound .ensures) (at-find .before .if1 .left) (suite-named (a .suite) _ (sym (at-find .find .ensures) ∙ c .before .before .before .known .given .1)) (sym (c .before .is-barred .ensures) ∙ c .if2 .taken)
 
 returns-4 : tie.Need-returns-4
 returns-4 c =
-    let at-find = to-find-from-then3 c in
-    let at-start = to-start-from-find at-find in
-    add-long sframe (at-start .args .store .now) (at-start .args .role) (at-start .args .kid .0) (at-start .args .suite) (at-start .args .base .now) _ (at-find .before .before .is-sound .ensures) (at-find .before .if1 .left) (suite-named (at-start .args .suite) _ (sym (at-find .find .ensures) ∙ c .before .before .before .known .given .1)) (c .before .if2 .left) (c .if3 .taken)
-
-find-requires-2 : tie.Need-find-requires-2
-find-requires-2 c κs =
-    let at-else1 = to-else1-from-find-arg c in
-    let at-slice-known = to-slice-known at-else1 in
-    tested-whole (at-slice-known .before .args .store .now) (λ j. omega (arith, at-slice-known .slice-known .given j)) _ (at-else1 .before .is-sound .ensures) (at-else1 .if1 .left)
+    let at-else2 = c .before in
+    let at-find = to-find-from-else2 at-else2 in
+    let a = to-start-from-find at-find .args in
+    add-short sframe (a .store .now) (a .role) (a .kid .0) (a .suite) (a .base .now) _ (at-find .before .before .is-sound .ensures) (at-find .before .if1 .left) (known-at at-else2) (allowed-at at-else2) (c .if3 .taken)
 
 returns-5 : tie.Need-returns-5
 returns-5 c =
-    let at-else3 = to-else3-from-enum-told3 c in
-    let at-find = to-find-from-else3 at-else3 in
-    let at-start = to-start-from-find at-find in
-    add-held sframe (at-start .args .store .now) (at-start .args .role) (at-start .args .kid .0) (at-start .args .suite) (at-start .args .base .now) _ (at-find .before .before .is-sound .ensures) (at-find .before .if1 .left) (suite-named (at-start .args .suite) _ (sym (at-find .find .ensures) ∙ at-else3 .before .before .before .known .given .1)) (at-else3 .before .if2 .left) (at-else3 .if3 .left) _ (c .before .before .find2 .ensures) _ (c .enum-told3 .given .1)
+    let at-else2 = c .before .before in
+    let at-find = to-find-from-else2 at-else2 in
+    let a = to-start-from-find at-find .args in
+    add-long sframe (a .store .now) (a .role) (a .kid .0) (a .suite) (a .base .now) _ (at-find .before .before .is-sound .ensures) (at-find .before .if1 .left) (known-at at-else2) (allowed-at at-else2) (c .before .if3 .left) (c .if4 .taken)
 
-find-free-requires : tie.Need-find-free-requires
-find-free-requires c κs =
-    let at-else1 = to-else1-from-find-free-arg c in
-    let at-slice-known = to-slice-known at-else1 in
-    tested-whole (at-slice-known .before .args .store .now) (λ j. omega (arith, at-slice-known .slice-known .given j)) _ (at-else1 .before .is-sound .ensures) (at-else1 .if1 .left)
+find-requires-2 : tie.Need-find-requires-2
+find-requires-2 c κs = whole-at (c .before .before .before)
 
 returns-6 : tie.Need-returns-6
 returns-6 c =
+    let at-else4 = to-else4-from-enum-told3 c in
+    let at-else2 = at-else4 .before .before in
+    let at-find = to-find-from-else2 at-else2 in
+    let a = to-start-from-find at-find .args in
+    add-held sframe (a .store .now) (a .role) (a .kid .0) (a .suite) (a .base .now) _ (at-find .before .before .is-sound .ensures) (at-find .before .if1 .left) (known-at at-else2) (allowed-at at-else2) (at-else4 .before .if3 .left) (at-else4 .if4 .left) _ (c .before .before .find2 .ensures) _ (c .enum-told3 .given .1)
+
+find-free-requires : tie.Need-find-free-requires
+find-free-requires c κs = whole-at (to-else4-from-find-free-arg c .before .before)
+
+returns-7 : tie.Need-returns-7
+returns-7 c =
     let at-enum-told2 = to-enum-told2-from-enum-told4 c in
-    let at-else3 = to-else3-from-enum-told2 at-enum-told2 in
-    let at-find = to-find-from-else3 at-else3 in
-    let at-start = to-start-from-find at-find in
-    add-full sframe (at-start .args .store .now) (at-start .args .role) (at-start .args .kid .0) (at-start .args .suite) (at-start .args .base .now) _ (at-find .before .before .is-sound .ensures) (at-find .before .if1 .left) (suite-named (at-start .args .suite) _ (sym (at-find .find .ensures) ∙ at-else3 .before .before .before .known .given .1)) (at-else3 .before .if2 .left) (at-else3 .if3 .left) _ (at-enum-told2 .before .before .find2 .ensures) (at-enum-told2 .enum-told2 .given .1) _ (c .before .before .find-free .ensures) (c .enum-told4 .given .1)
+    let at-else4 = to-else4-from-enum-told2 at-enum-told2 in
+    let at-else2 = at-else4 .before .before in
+    let at-find = to-find-from-else2 at-else2 in
+    let a = to-start-from-find at-find .args in
+    add-full sframe (a .store .now) (a .role) (a .kid .0) (a .suite) (a .base .now) _ (at-find .before .before .is-sound .ensures) (at-find .before .if1 .left) (known-at at-else2) (allowed-at at-else2) (at-else4 .before .if3 .left) (at-else4 .if4 .left) _ (at-enum-told2 .before .before .find2 .ensures) (at-enum-told2 .enum-told2 .given .1) _ (c .before .before .find-free .ensures) (c .enum-told4 .given .1)
 
 fill-at-requires : tie.Need-fill-at-requires
 fill-at-requires c κs =
     let at-find-free = to-find-free c in
-    let at-else3 = to-else3-from-find-free at-find-free in
-    let at-else1 = to-else1-from-else3 at-else3 in
-    let at-slice-known = to-slice-known at-else1 in
-    (free-within (at-slice-known .before .args .store .now) _ _ (tested-sound (at-slice-known .before .args .store .now) (λ j. omega (arith, at-slice-known .slice-known .given j)) _ (at-else1 .before .is-sound .ensures) (at-else1 .if1 .left)) (at-find-free .find-free .ensures) (c .before .before .i .given .1), free-empty _ _ _ (at-find-free .find-free .ensures) (c .before .before .i .given .1), at-else3 .if3 .left)
+    let at-else4 = to-else4-from-find-free at-find-free in
+    (free-within _ _ _ (sound-at (at-else4 .before .before)) (at-find-free .find-free .ensures) (c .before .before .i .given .1), free-empty _ _ _ (at-find-free .find-free .ensures) (c .before .before .i .given .1), at-else4 .if4 .left)
 
-returns-7 : tie.Need-returns-7
-returns-7 c =
+returns-8 : tie.Need-returns-8
+returns-8 c =
     let at-i = to-i c in
     let at-enum-told2 = to-enum-told2-from-i at-i in
-    let at-else3 = to-else3-from-enum-told2 at-enum-told2 in
-    let at-find = to-find-from-else3 at-else3 in
-    let at-start = to-start-from-find at-find in
-    let a = at-start .args in
-    let n = number-is (a .suite) (at-else3 .before .before .before .known .given .0 .0) (sym (at-find .find .ensures) ∙ at-else3 .before .before .before .known .given .1) in
-    add-done sframe (at-start .args .store .now) (at-start .args .role) (at-start .args .kid .0) (at-start .args .suite) (at-start .args .base .now) _ (at-find .before .before .is-sound .ensures) (at-find .before .if1 .left) (suite-named (at-start .args .suite) _ (sym (at-find .find .ensures) ∙ at-else3 .before .before .before .known .given .1)) (at-else3 .before .if2 .left) (at-else3 .if3 .left) _ (at-enum-told2 .before .before .find2 .ensures) (at-enum-told2 .enum-told2 .given .1) _ (at-i .before .before .find-free .ensures) _ (at-i .i .given .1) _
-    (c .before .before .fill-at .ensures ∙ ap (λ (r : KeyRecord). encodeAll (set (records (a .store .now)) (at-i .i .given .0 .0) r)) (added-told (a .role) (at-else3 .before .before .before .known .given .0 .0) (a .kid .0) (a .suite) (a .base .now) n))
+    let at-else4 = to-else4-from-enum-told2 at-enum-told2 in
+    let at-else2 = at-else4 .before .before in
+    let at-find = to-find-from-else2 at-else2 in
+    let a = to-start-from-find at-find .args in
+    let suite = at-else2 .before .before .before .known .given in
+    let n = number-is (a .suite) (suite .0 .0) (sym (at-find .find .ensures) ∙ suite .1) in
+    add-done sframe (a .store .now) (a .role) (a .kid .0) (a .suite) (a .base .now) _ (at-find .before .before .is-sound .ensures) (at-find .before .if1 .left) (known-at at-else2) (allowed-at at-else2) (at-else4 .before .if3 .left) (at-else4 .if4 .left) _ (at-enum-told2 .before .before .find2 .ensures) (at-enum-told2 .enum-told2 .given .1) _ (at-i .before .before .find-free .ensures) _ (at-i .i .given .1) _
+    (c .before .before .fill-at .ensures ∙ ap (λ (r : KeyRecord). encodeAll (set (records (a .store .now)) (at-i .i .given .0 .0) r)) (added-told (a .role) (suite .0 .0) (a .kid .0) (a .suite) (a .base .now) n))
 
 pub add-spec : {M : Type 1} → statement M
 add-spec =
@@ -154,20 +173,23 @@ add-spec =
     (λ c. search needs)
     (λ c. search needs)
     returns-2
+    (λ c κs. search needs)
     (λ c. search needs)
     returns-3
     (λ c. search needs)
     returns-4
+    (λ c. search needs)
+    returns-5
     find-requires-2
     (λ c. search needs)
     (λ c. search needs)
     (λ c. search needs)
-    returns-5
+    returns-6
     find-free-requires
     (λ c. search needs)
     (λ c. search needs)
     (λ c. search needs)
-    returns-6
+    returns-7
     fill-at-requires
     (λ c. search needs)
-    returns-7)
+    returns-8)

@@ -1,5 +1,7 @@
 //! A folder of its own for each test, and runs of the tool in it.
 
+use reference::record::{Record, State};
+use reference::suites::Suite;
 use std::fs;
 use std::io::Write;
 use std::path::{Path, PathBuf};
@@ -20,16 +22,29 @@ impl Folder {
     }
 
     /// A folder with the stores `ward`, which sends key number 200 under the
-    /// suite, and `doctor`, which receives it.
+    /// suite, and `doctor`, which receives it. A sender of suite 3, which the tool
+    /// does not add, is the record of an older store.
     pub fn with_stores(name: &str, suite: u8) -> Self {
         let folder = Folder::new(name);
         folder.write("key", &[7; 32]);
         for (store, role) in [("ward", "--sending"), ("doctor", "--receiving")] {
             folder.done(&format!("make {store} --keys 2"));
-            let add = format!("add {store} {role} --kid 200 --suite {suite} --key key");
-            folder.done(&add);
+            if suite == 3 && role == "--sending" {
+                folder.put_sender(store, Suite::Aes128CtrHmacSha256_32);
+            } else {
+                let add = format!("add {store} {role} --kid 200 --suite {suite} --key key");
+                folder.done(&add);
+            }
         }
         folder
+    }
+
+    /// Writes the sender of key number 200 into a store's file.
+    fn put_sender(&self, store: &str, suite: Suite) {
+        let mut bytes = self.read(store);
+        let record = Record::new(State::Sending, suite, 200, &self.read("key"));
+        reference::store::put(&mut bytes, record);
+        self.write(store, &bytes);
     }
 
     pub fn path(&self, file: &str) -> PathBuf {

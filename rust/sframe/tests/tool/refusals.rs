@@ -67,7 +67,7 @@ fn number_of_keys() {
 
 #[test]
 fn add_refused() {
-    let folder = folder("refused-2-to-5");
+    let folder = folder("refused-add");
     folder.write("short", &[7; 15]);
     folder.write("long", &[7; 65]);
     folder.write("longer", &[7; 10_000]);
@@ -75,6 +75,10 @@ fn add_refused() {
     for suite in ["0", "6", "256", "18446744073709551615"] {
         let line = add(&format!("--kid 1 --suite {suite} --key key"));
         refused(&folder, &line, Refusal::NoSuchSuite);
+    }
+    for (kid, key) in [(1, "key"), (1, "short"), (1, "longer"), (200, "key")] {
+        let line = add(&format!("--kid {kid} --suite 3 --key {key}"));
+        refused(&folder, &line, Refusal::SendingBarred);
     }
     for key in ["short", "long", "longer"] {
         let line = add(&format!("--kid 1 --suite 1 --key {key}"));

@@ -14,6 +14,7 @@ const ANSWERS: [(&str, &[u32]); 5] = [
             DONE,
             STORE_NOT_SOUND,
             NO_SUCH_SUITE,
+            SENDING_BARRED,
             BASE_KEY_LENGTH,
             KID_HELD,
             STORE_FULL,

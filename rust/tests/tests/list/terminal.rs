@@ -3,7 +3,7 @@
 
 use super::{damage, Given, Tally};
 use comparison::number::DONE;
-use comparison::{compare, done, made, with_key, Call, Key, Outcome};
+use comparison::{compare, done, made, with_key, Call, Key, Outcome, RECEIVE_ONLY};
 use reference::header::read_header;
 use reference::suites::{nonce, Suite, NN};
 use sframe::{Role, RECORD};
@@ -121,6 +121,21 @@ impl Terminal {
             sealed: vec![],
             waiting: vec![],
         }
+    }
+
+    /// A terminal whose store has a sender of [`RECEIVE_ONLY`] from before.
+    pub fn older(tally: &mut Tally, records: usize) -> Self {
+        let mut terminal = Terminal::new(tally, records);
+        let key = Key::any(RECEIVE_ONLY, KIDS[9]);
+        terminal.store = with_key(&terminal.store, Role::Sending, &key);
+        terminal.note_sending(&key);
+        terminal
+    }
+
+    /// How many frames of the list were sealed under a suite.
+    pub fn sealed_under(&self, suite: Suite) -> usize {
+        let under = |sealed: &&Sealed| self.sending[&sealed.kid].suite == suite;
+        self.sealed.iter().filter(under).count()
     }
 
     fn next_call(&mut self, generator: &mut Generator) -> Given {

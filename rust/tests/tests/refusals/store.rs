@@ -3,7 +3,7 @@
 use super::held::{make_unsound, store, Held, HELD, KID};
 use super::seen::Seen;
 use comparison::number::*;
-use comparison::{retire, with_key, Call, Key, ANY_KEY};
+use comparison::{retire, with_key, Call, Key, ANY_KEY, RECEIVE_ONLY};
 use reference::suites::SUITES;
 use sframe::{Role, MAX_METADATA, MAX_PLAINTEXT};
 use testkit::combinations;
@@ -11,6 +11,7 @@ use testkit::combinations;
 const ADD: &[u32] = &[
     STORE_NOT_SOUND,
     NO_SUCH_SUITE,
+    SENDING_BARRED,
     BASE_KEY_LENGTH,
     KID_HELD,
     STORE_FULL,
@@ -46,8 +47,10 @@ fn add() {
         for [number, base_key, role] in combinations([4, 4, 2]) {
             let number = [suite.number(), 0, 6, 256 + suite.number()][number];
             let base_key = [&ANY_KEY[..], &ANY_KEY[..15], &[7; 65], &[]][base_key];
+            let role = [Role::Sending, Role::Receiving][role];
+            let barred = number == RECEIVE_ONLY.number() && role == Role::Sending;
             let call = Call::Add {
-                role: [Role::Sending, Role::Receiving][role],
+                role,
                 suite: number,
                 kid: KID,
                 base_key,
@@ -55,6 +58,7 @@ fn add() {
             let causes = [
                 (STORE_NOT_SOUND, unsound),
                 (NO_SUCH_SUITE, number != suite.number()),
+                (SENDING_BARRED, barred),
                 (BASE_KEY_LENGTH, base_key != ANY_KEY),
                 (KID_HELD, held != Held::Not),
                 (STORE_FULL, full),
@@ -62,7 +66,8 @@ fn add() {
             seen.check(&store, call, causes);
         }
     }
-    seen.finish(&[]);
+    // A number that is no suite's is not suite 3's.
+    seen.finish(&[(NO_SUCH_SUITE, SENDING_BARRED)]);
 }
 
 #[test]

@@ -7,6 +7,7 @@ use sframe::{
 };
 
 const SUITE: Suite = Suite::Aes128GcmSha256_128;
+const SHORT_TAGS: Suite = Suite::Aes128CtrHmacSha256_32;
 
 /// Where a record keeps its next counter.
 const COUNTER_AT: usize = 12;
@@ -43,6 +44,8 @@ fn of_stores(ward: &mut [u8], doctor: &mut [u8]) {
         print(refusal, "a key is added for suite 6");
     }
     let mut ward = Store::over(ward);
+    let answer = ward.add(Role::Sending, SHORT_TAGS, Kid(1), BASE_KEY);
+    print(refusal(answer), "a key for sending is added for suite 3");
     let answer = ward.add(Role::Sending, SUITE, Kid(1), &BASE_KEY[..15]);
     print(refusal(answer), "a base key of 15 bytes is added");
     let answer = ward.add(Role::Sending, SUITE, KID, BASE_KEY);

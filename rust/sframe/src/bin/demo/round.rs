@@ -8,14 +8,16 @@ const METADATA: Metadata = Metadata(b"ward 3, camera 2");
 
 const PICTURES: [&[u8]; 3] = [b"bed 1: asleep", b"bed 2: reading a letter", b""];
 
+/// What the first byte of a sending record holds.
+const SENDING: u8 = 1;
+
 pub fn show() -> Result<(), Refusal> {
     println!("The ward seals pictures under key number 200, the doctor opens them.");
     for suite in Suite::ALL {
         println!("\nSuite {}, {suite}:", suite.number());
         let (mut ward, mut doctor) = ([0; RECORD], [0; RECORD]);
-        let mut ward = Store::make(&mut ward)?;
+        let mut ward = sender(&mut ward, suite)?;
         let mut doctor = Store::make(&mut doctor)?;
-        ward.add(Role::Sending, suite, KID, BASE_KEY)?;
         doctor.add(Role::Receiving, suite, KID, BASE_KEY)?;
 
         for picture in PICTURES {
@@ -36,4 +38,21 @@ pub fn show() -> Result<(), Refusal> {
         }
     }
     Ok(())
+}
+
+/// A store that sends under [`KID`]. Where no sender is added it is taken from a
+/// store of an earlier day: the record of the same key for receiving, marked as a
+/// sending one.
+fn sender(bytes: &mut [u8], suite: Suite) -> Result<Store<'_>, Refusal> {
+    let added = Store::make(bytes)?.add(Role::Sending, suite, KID, BASE_KEY);
+    if let Err(refusal) = added {
+        assert_eq!(refusal, Refusal::SendingBarred);
+        println!(
+            "  not added any more ({}); a stored sender goes on:",
+            refusal.number()
+        );
+        Store::over(bytes).add(Role::Receiving, suite, KID, BASE_KEY)?;
+        bytes[0] = SENDING;
+    }
+    Ok(Store::over(bytes))
 }

@@ -15,7 +15,7 @@ Each frame that is sealed uses up one counter of its key.
       with --hex it holds them as hex digits. A key is never an argument.
       Suites:  1  AES_128_CTR_HMAC_SHA256_80     4  AES_128_GCM_SHA256_128
                2  AES_128_CTR_HMAC_SHA256_64     5  AES_256_GCM_SHA512_128
-               3  AES_128_CTR_HMAC_SHA256_32
+               3  AES_128_CTR_HMAC_SHA256_32, not for sending
 
   sframe remove STORE --kid K
       Removes a key. A number that was added for sending stays taken in this
@@ -59,7 +59,7 @@ Frames are no longer safe once a key has used a counter twice. That happens with
 a copy of a store, with a store put back as it was before, say from a backup,
 and with a new store that gets the same keys for sending: never seal with these.
 
-Exit status: 0 done; 1 to 13, 20 and 21 refused, with these causes:
+Exit status: 0 done; 1 to 13, 17, 20 and 21 refused, with these causes:
    1  the store is not sound, or not      8  the key has no counter left
       1 to 64 keys in making              9  plaintext above 32768 bytes, or
    2  no such suite                          metadata above 1024
@@ -68,7 +68,8 @@ Exit status: 0 done; 1 to 13, 20 and 21 refused, with these causes:
    5  no empty record left               12  room too short (not met here)
    6  key number not in the store        13  the tag does not match
    7  role does not allow it             20  not 1 to 16 bits of a step, or a
-  21  more than 64 steps                     key number past 64 bits
+  17  suite 3 is not for sending             key number past 64 bits
+                                         21  more than 64 steps
 64 the command line is wrong; 65 an input is not hex; 74 a file failed.
 
 Example, sealing at one end and opening at the other:
