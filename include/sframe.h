@@ -59,7 +59,7 @@ enum sframe_answer {
     SFRAME_HEADER_INVALID = 10,
     /* The bytes behind the header are fewer than a tag has. */
     SFRAME_FRAME_SHORT = 11,
-    /* The room is shorter than the result. */
+    /* The room is shorter than the result, or than offset and result together. */
     SFRAME_ROOM_SHORT = 12,
     /* The tag is not the one of this frame, key and metadata. */
     SFRAME_TAG_DIFFERS = 13,
@@ -156,6 +156,16 @@ uint32_t sframe_seal(uint8_t *store, size_t store_len, uint64_t kid, const uint8
                      const uint8_t *plaintext, size_t plaintext_len, uint8_t *out, size_t out_len, size_t *length);
 
 /*
+ * Seals as sframe_seal does, and writes the frame at an offset in out, so that the bytes before it can be
+ * the caller's own: they stay as they were. *length is the frame's length, without the offset.
+ * SFRAME_ROOM_SHORT holds where out_len is less than offset and frame together, which is so too where the
+ * offset lies past the end; any offset may be given. Offset 0 is sframe_seal.
+ */
+uint32_t sframe_seal_at(uint8_t *store, size_t store_len, uint64_t kid, const uint8_t *metadata, size_t metadata_len,
+                        const uint8_t *plaintext, size_t plaintext_len, uint8_t *out, size_t out_len, size_t offset,
+                        size_t *length);
+
+/*
  * Opens a frame, given the metadata of its sealing, and writes the plaintext to the start of out. The
  * store is not changed. Nothing is written before the tag is found to match. The tag is over the header
  * as it was received, in its shortest form or a longer one. What counts as plaintext for
@@ -176,6 +186,15 @@ uint32_t sframe_open(const uint8_t *store, size_t store_len, const uint8_t *fram
  * SFRAME_ROOM_SHORT: out_len is less than the header's length; *length is 0 and the room stays as it was.
  */
 uint32_t sframe_write_header(uint64_t kid, uint64_t ctr, uint8_t *out, size_t out_len, size_t *length);
+
+/*
+ * Writes the header at an offset in out, as sframe_write_header does at the start.
+ *
+ * SFRAME_DONE: *length is the header's length, without the offset; the room before it and beyond it stays as it was.
+ * SFRAME_ROOM_SHORT: out_len is less than offset and header together; *length is 0 and the room stays as it was.
+ */
+uint32_t sframe_write_header_at(uint64_t kid, uint64_t ctr, uint8_t *out, size_t out_len, size_t offset,
+                                size_t *length);
 
 /*
  * Reads the header at the front of the bytes, whatever follows it. A number may stand in more bytes than it needs.

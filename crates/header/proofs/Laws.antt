@@ -23,11 +23,11 @@ use Rattle.header.specs.declared.Reading.{Reading}
 use Rattle.header.specs.declared.Reading.the-variants.{Header, Invalid}
 
 -- the two outcomes of a test
-data Two (b : Bool) : Type 0 where
+pub data Two (b : Bool) : Type 0 where
   yes′ : b ≡ true → Two b
   no′ : b ≡ false → Two b
 
-two : (b : Bool) → Two b
+pub two : (b : Bool) → Two b
 two true = yes′ refl
 two false = no′ refl
 

@@ -1,19 +1,22 @@
 -- The steps of the writer and of the reader, over plain variables. Assumes nothing.
 use mathlib.Core.Path.{_≡_, refl, sym, _∙_, ap, ap₂}
 use mathlib.Core.List.{List, [], _∷_, _++_}
-use Prim.Native.Nat.{ℕ, _+_, _*_, _/_, _%_, _-_, _<_, _≤_}
+use Prim.Native.Nat.{ℕ, _+_, _*_, _/_, _%_, _-_, _<_, _≤_, min}
 use native.Mathlib.Omega.{arith}
-use lib.ListN.{length, getD, take, drop, set, length-drop}
+use lib.Dec.{leb}
+use lib.ListN.{length, getD, take, drop, set, length-drop, take-append-drop}
 use lib.Seq.{drop-drop}
-use borrow.Author.Tests.{le-leb, lt-leb, eq-eqb, ne-eqb}
+use borrow.Author.Tests.{le-leb, lt-leb, leb-true, leb-false, eq-eqb, ne-eqb}
+use borrow.Rule.Slice.PartMut.{putMid}
 use Rattle.octets.specs.Octets.{number, bytes, pasted}
-use Rattle.octets.proofs.Laws.{part-rest, bytes-length, set-pasted, pasted-append, pasted-front}
+use Rattle.octets.proofs.Laws.{part-rest, part-from, lent-from, bytes-length, set-pasted, pasted-append, pasted-from}
 use Rattle.header.specs.Header.{size, flag, code, width, config, maxHeader, header, writeHeader, readBytes, readField, withCounter, readCounter, readHeader}
 use Rattle.header.specs.declared.Field.{Field}
 use Rattle.header.specs.declared.Field.the-variants.{Value, Refused}
 use Rattle.header.specs.declared.Reading.the-variants.{Header, Invalid}
+use Rattle.header.specs.declared.Written.{Written}
 use Rattle.header.specs.declared.Written.the-variants.{Length, NoRoom}
-use Rattle.header.proofs.Laws.{field-inside, header-size}
+use Rattle.header.proofs.Laws.{Two, yes′, no′, two, field-inside, header-size}
 
 -- ---- writing
 
@@ -29,14 +32,14 @@ module _ (kid ctr k c : ℕ) (out : List ℕ) (kw : k ≡ width kid) (cw : c ≡
   pub header-most : k ≤ 8 → c ≤ 8 → length (header kid ctr) ≤ maxHeader
   header-most m n = rw whole (omega arith)
 
-  pub no-room : length out < 1 + k + c → (NoRoom ≡ writeHeader kid ctr out .answer) × (out ≡ writeHeader kid ctr out .room)
+  pub no-room : length out < 1 + k + c → (NoRoom ≡ writeHeader kid ctr 0 out .answer) × (out ≡ writeHeader kid ctr 0 out .room)
   unfolding writeHeader
   no-room h =
-      let t = lt-leb (length (header kid ctr)) (length out) (rw whole h) in
+      let t = lt-leb (0 + length (header kid ctr)) (length out) (omega (arith, whole)) in
       (rw t, rw t)
 
   module _ (b : ℕ) (p q : List ℕ) (is : b ≡ config kid ctr) (first : p ≡ pasted (set out 0 b) 1 (bytes k kid)) (second : q ≡ pasted p (1 + k) (bytes c ctr)) where
-    all : 1 + k + c ≤ length out → q ≡ header kid ctr ++ drop (length (header kid ctr)) out
+    all : 1 + k + c ≤ length out → q ≡ pasted out 0 (header kid ctr)
     unfolding header
     all h =
         let nk = bytes-length k kid in
@@ -49,13 +52,47 @@ module _ (kid ctr k c : ℕ) (out : List ℕ) (kw : k ≡ width kid) (cw : c ≡
         ∙ pasted-append out 0 (b ∷ bytes k kid) (bytes c ctr) (omega arith)
         in
         let four : b ∷ (bytes k kid ++ bytes c ctr) ≡ header kid ctr = rw (kw, cw, is) in
-        three ∙ pasted-front out (b ∷ (bytes k kid ++ bytes c ctr)) ∙ ap (λ (l : List ℕ). l ++ drop (length l) out) four
+        three ∙ ap (pasted out 0) four
 
-    pub wrote : 1 + k + c ≤ length out → (Length (1 + k + c) ≡ writeHeader kid ctr out .answer) × (q ≡ writeHeader kid ctr out .room)
+    pub wrote : 1 + k + c ≤ length out → (Length (1 + k + c) ≡ writeHeader kid ctr 0 out .answer) × (q ≡ writeHeader kid ctr 0 out .room)
     unfolding writeHeader
     wrote h =
-        let t = le-leb (length (header kid ctr)) (length out) (rw whole h) in
+        let t = le-leb (0 + length (header kid ctr)) (length out) (omega (arith, whole)) in
         (rw (t, whole), rw t (all h))
+
+-- at an offset: the header at the front of the part that is lent from there on, which begins at i
+module _ (kid ctr offset i : ℕ) (out : List ℕ) (from : i ≡ min offset (length out)) where
+  -- the room is as short for the one as for the other
+  part-short : leb (0 + length (header kid ctr)) (length (drop offset out)) ≡ leb (offset + length (header kid ctr)) (length out)
+  part-short = by (two (leb (offset + length (header kid ctr)) (length out)))
+    where
+      by : Two (leb (offset + length (header kid ctr)) (length out)) → leb (0 + length (header kid ctr)) (length (drop offset out)) ≡ leb (offset + length (header kid ctr)) (length out)
+      by (yes′ t) = let h = leb-true (offset + length (header kid ctr)) (length out) t in le-leb (0 + length (header kid ctr)) (length (drop offset out)) (simp length-drop (omega arith)) ∙ sym t
+      by (no′ t) =
+          let h = leb-false (offset + length (header kid ctr)) (length out) t in
+          let n = header-size kid ctr in
+          lt-leb (0 + length (header kid ctr)) (length (drop offset out)) (simp length-drop (omega arith)) ∙ sym t
+
+  pub wrote-at : (w : Written) (p : List ℕ) → w ≡ writeHeader kid ctr 0 (take (length out - i) (drop i out)) .answer → p ≡ writeHeader kid ctr 0 (take (length out - i) (drop i out)) .room
+      → (w ≡ writeHeader kid ctr offset out .answer) × (putMid i (length out - i) out p ≡ writeHeader kid ctr offset out .room)
+  unfolding writeHeader
+  wrote-at w p a r = by (two (leb (offset + length (header kid ctr)) (length out)))
+    where
+      a′ : w ≡ writeHeader kid ctr 0 (drop offset out) .answer
+      a′ = rw (part-from out offset i from) at a
+
+      r′ : p ≡ writeHeader kid ctr 0 (drop offset out) .room
+      r′ = rw (part-from out offset i from) at r
+
+      by : Two (leb (offset + length (header kid ctr)) (length out)) → (w ≡ writeHeader kid ctr offset out .answer) × (putMid i (length out - i) out p ≡ writeHeader kid ctr offset out .room)
+      by (yes′ t) =
+          let s = part-short ∙ t in
+          let q : p ≡ pasted (drop offset out) 0 (header kid ctr) = rw s at r′ in
+          (rw t (rw s at a′), rw t (lent-from out p offset i from ∙ ap (λ (x : List ℕ). take offset out ++ x) q ∙ pasted-from out offset (header kid ctr)))
+      by (no′ t) =
+          let s = part-short ∙ t in
+          let q : p ≡ drop offset out = rw s at r′ in
+          (rw t (rw s at a′), rw t (lent-from out p offset i from ∙ ap (λ (x : List ℕ). take offset out ++ x) q ∙ take-append-drop offset out))
 
 -- ---- reading a field
 

@@ -5,7 +5,7 @@ use Prim.Native.Nat.{ℕ, _+_, _*_, _-_, _/_, _%_, _<_}
 use lib.Count.{leadingZeros}
 use lib.Dec.{leb, ltb, eqb}
 use lib.ListN.{length, drop}
-use Rattle.octets.specs.Octets.{number, bytes, pick}
+use Rattle.octets.specs.Octets.{number, bytes, pasted, pick}
 use Rattle.header.specs.declared.Field.{Field}
 use Rattle.header.specs.declared.Field.the-variants.{Value, Refused}
 use Rattle.header.specs.declared.Reading.{Reading}
@@ -43,16 +43,18 @@ maxHeader = 17
 unfoldable pub header : ℕ → ℕ → List ℕ
 header kid ctr = config kid ctr ∷ (bytes (width kid) kid ++ bytes (width ctr) ctr)
 
--- What writing a header answers, and what the room holds afterwards. Cause 12: the room is too short.
+-- What writing a header answers, and what the room holds afterwards.
 pub record Writing : Type 0 where
   pub answer : Written
   pub room : List ℕ
 
-unfoldable pub writeHeader : (kid ctr : ℕ) (out : List ℕ) → Writing
-writeHeader kid ctr out =
+-- Writing a header at an offset in the room: the bytes before it and behind it stay. Cause 12: the room is shorter than offset and
+-- header together.
+unfoldable pub writeHeader : (kid ctr offset : ℕ) (out : List ℕ) → Writing
+writeHeader kid ctr offset out =
     let h = header kid ctr in
-    pick (leb (length h) (length out))
-    (record { answer = Length (length h); room = h ++ drop (length h) out })
+    pick (leb (offset + length h) (length out))
+    (record { answer = Length (length h); room = pasted out offset h })
     (record { answer = NoRoom; room = out })
 
 -- ---- reading

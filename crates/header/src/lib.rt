@@ -58,8 +58,8 @@ fn bits_of(v: u64, n: usize) -> u8
 
 // Writes the header of kid and ctr to the front of out.
 pub fn write_header(kid: Kid, ctr: Ctr, out: &mut [u8]) -> Written
-    ensures { λ r. ⌜ r ≡ writeHeader (kid .0) (ctr .0) (now (out .entry)) .answer ⌝ }
-    ensures { λ r. ⌜ now (out .exit) ≡ writeHeader (kid .0) (ctr .0) (now (out .entry)) .room ⌝ }
+    ensures { λ r. ⌜ r ≡ writeHeader (kid .0) (ctr .0) 0 (now (out .entry)) .answer ⌝ }
+    ensures { λ r. ⌜ now (out .exit) ≡ writeHeader (kid .0) (ctr .0) 0 (now (out .entry)) .room ⌝ }
     ensures { λ r. ⌜ length (header (kid .0) (ctr .0)) ≤ maxHeader ⌝ }
 {
     let k = width_of(kid.0);
@@ -72,6 +72,16 @@ pub fn write_header(kid: Kid, ctr: Ctr, out: &mut [u8]) -> Written
     octets::write_be_at(out, 1, k, kid.0);
     octets::write_be_at(out, 1 + k, c, ctr.0);
     Written::Length(n)
+}
+
+// Writes the header of kid and ctr at an offset in out: the part from there on is lent to write_header, and none of it where
+// the offset lies past the end.
+pub fn write_header_at(kid: Kid, ctr: Ctr, out: &mut [u8], offset: usize) -> Written
+    ensures { λ r. ⌜ r ≡ writeHeader (kid .0) (ctr .0) offset (now (out .entry)) .answer ⌝ }
+    ensures { λ r. ⌜ now (out .exit) ≡ writeHeader (kid .0) (ctr .0) offset (now (out .entry)) .room ⌝ }
+{
+    let from = octets::min(offset, out.len());
+    write_header(kid, ctr, &mut out[from..])
 }
 
 // Reads a field with the flag x and the three bits k, whose bytes would stand at the front of rest.

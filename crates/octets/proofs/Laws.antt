@@ -1,15 +1,15 @@
 -- Laws of bytes and byte strings, for this crate's proofs and for those above it. Assumes nothing.
 use mathlib.Core.Path.{_≡_, refl, sym, _∙_, ap, ap₂}
 use mathlib.Core.Bool.{Bool, true, false, false≢true}
-use mathlib.Core.List.{List, [], _∷_, _++_, append-assoc}
-use Prim.Native.Nat.{ℕ, zero, suc, _+_, _*_, _/_, _%_, _^_, _-_, _<_, _≤_}
-use native.Mathlib.Nat.{add-zero, zero-add, add-suc, add-comm, suc-add, mul-one, mul-assoc, mul-pos, add-assoc, pow-suc, pow-succ', pow-zero, mod-lt, mod-one, mod-mod-of-dvd, dvd-mul-left, div-div-eq-div-mul, div-one, one-le-pow}
+use mathlib.Core.List.{List, [], _∷_, _++_, append-assoc, append-nil}
+use Prim.Native.Nat.{ℕ, zero, suc, _+_, _*_, _/_, _%_, _^_, _-_, _<_, _≤_, min}
+use native.Mathlib.Nat.{zero-min, min-zero, suc-min-suc, add-zero, zero-add, add-suc, add-comm, suc-add, mul-one, mul-assoc, mul-pos, add-assoc, pow-suc, pow-succ', pow-zero, mod-lt, mod-one, mod-mod-of-dvd, dvd-mul-left, div-div-eq-div-mul, div-one, one-le-pow}
 use native.Mathlib.Numerals.{add-one, one-add}
 use native.Mathlib.Omega.{arith}
 use lib.Arith.{digits-lt, digits-div, digits-mod, mod-mul}
 use lib.Bits.{bitXor, xor-lt}
 use lib.Dec.{eqb}
-use lib.ListN.{length, getD, take, drop, set, replicate, length-append, length-take, length-drop, take-append-drop, List·getD-append}
+use lib.ListN.{length, getD, take, drop, set, replicate, length-append, length-take, length-drop, take-append-drop, drop-of-length-le, List·getD-append}
 use lib.Seq.{take-suc, set-split, take-all, take-at, drop-at, drop-drop, drop-append-le, getD-take, getD-drop}
 use lib.Pow.{pow-add}
 use borrow.Rule.Slice.PartMut.{putMid}
@@ -161,6 +161,30 @@ octets-replicate (suc n) b h (suc i) = octets-replicate n b h i
 pub part-rest : (n : ℕ) (l : List ℕ) → take (length l - n) (drop n l) ≡ drop n l
 part-rest n l = take-all (length l - n) (drop n l) (simp length-drop (omega arith))
 
+-- ---- a part from an offset on, which may lie past the end
+
+pub take-min : (n : ℕ) (l : List ℕ) → take (min n (length l)) l ≡ take n l
+take-min zero l = rw zero-min
+take-min (suc n) [] = rw min-zero
+take-min (suc n) (x ∷ l) = ap (λ (k : ℕ). take k (x ∷ l)) (suc-min-suc n (length l)) ∙ ap (λ (t : List ℕ). x ∷ t) (take-min n l)
+
+pub drop-min : (n : ℕ) (l : List ℕ) → drop (min n (length l)) l ≡ drop n l
+drop-min zero l = rw zero-min
+drop-min (suc n) [] = rw min-zero
+drop-min (suc n) (x ∷ l) = ap (λ (k : ℕ). drop k (x ∷ l)) (suc-min-suc n (length l)) ∙ drop-min n l
+
+-- the part that is lent from offset n on, i being where the code begins it
+pub part-from : (l : List ℕ) (n i : ℕ) → i ≡ min n (length l) → take (length l - i) (drop i l) ≡ drop n l
+part-from l n i e = part-rest i l ∙ ap (λ (k : ℕ). drop k l) e ∙ drop-min n l
+
+-- what is left of the whole where that part has become p
+pub lent-from : (l p : List ℕ) (n i : ℕ) → i ≡ min n (length l) → putMid i (length l - i) l p ≡ take n l ++ p
+lent-from l p n i e =
+    let nothing : drop (length l - i) (drop i l) ≡ [] = drop-of-length-le (drop i l) {i = length l - i} (simp length-drop (omega arith)) in
+    ap (λ (t : List ℕ). take i l ++ (p ++ t)) nothing
+    ∙ ap (λ (t : List ℕ). take i l ++ t) (append-nil p)
+    ∙ ap (λ (t : List ℕ). t ++ p) (ap (λ (k : ℕ). take k l) e ∙ take-min n l)
+
 -- ---- pasting
 
 pub pasted-length : (l : List ℕ) (i : ℕ) (x : List ℕ) → i + length x ≤ length l → length (pasted l i x) ≡ length l
@@ -183,6 +207,16 @@ pasted-append l i x y h =
 pub pasted-front : (l x : List ℕ) → pasted l 0 x ≡ x ++ drop (length x) l
 unfolding pasted
 pasted-front l x = rw zero-add
+
+-- pasting at n is pasting at the front of what lies from n on
+pub pasted-from : (l : List ℕ) (n : ℕ) (x : List ℕ) → take n l ++ pasted (drop n l) 0 x ≡ pasted l n x
+unfolding pasted
+pasted-from l n x = rw zero-add (ap (λ (t : List ℕ). take n l ++ (x ++ t)) (drop-drop (length x) n l))
+
+-- what was pasted stands there
+pub pasted-at : (l : List ℕ) (n : ℕ) (x : List ℕ) → n ≤ length l → take (length x) (drop n (pasted l n x)) ≡ x
+unfolding pasted
+pasted-at l n x h = ap (take (length x)) (drop-at (take n l) (x ++ drop (n + length x) l) n (simp length-take (omega arith))) ∙ take-at x (drop (n + length x) l) (length x) refl
 
 -- one byte stored is one byte pasted
 pub set-pasted : (l : List ℕ) (i b : ℕ) → i < length l → set l i b ≡ pasted l i (b ∷ [])

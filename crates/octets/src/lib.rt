@@ -1,7 +1,7 @@
 // Big-endian numbers in bytes, and copying, clearing, comparing and combining slices of bytes.
 ghost use mathlib.Core.Path.{_≡_};
 ghost use mathlib.Core.List.{_++_};
-ghost use Prim.Native.Nat.{_+_, _*_, _^_, _≤_, _<_};
+ghost use Prim.Native.Nat.{_+_, _*_, _^_, _≤_, _<_, min};
 ghost use lib.ListN.{length, drop, replicate};
 ghost use Rattle.octets.specs.Octets.{number, bytes, pasted, same, xors};
 
@@ -37,6 +37,13 @@ pub fn write_be(out: &mut [u8], n: usize, x: u64)
         out[i] = (rest % 256) as u8;
         rest = rest / 256;
     }
+}
+
+// The smaller of two numbers. An offset into a slice comes to the slice's end where it lies past it.
+pub fn min(a: usize, b: usize) -> usize
+    ensures { λ r. ⌜ r ≡ min a b ⌝ }
+{
+    if b < a { b } else { a }
 }
 
 fn join(a: u8, b: u8, c: u8, d: u8) -> u32

@@ -2,22 +2,24 @@
 use mathlib.Core.Path.{_≡_, refl, sym, _∙_, ap, ap₂}
 use mathlib.Core.Bool.{Bool, true, false, not}
 use mathlib.Core.List.{List, _++_, append-assoc}
-use Prim.Native.Nat.{ℕ, _+_, _-_, _<_, _≤_}
+use Prim.Native.Nat.{ℕ, zero, suc, _+_, _-_, _<_, _≤_, min}
 use native.Mathlib.Nat.{sub-zero}
 use native.Mathlib.Omega.{arith}
 use lib.Dec.{eqb, ltb, leb}
-use lib.ListN.{length, getD, set, take, drop, length-append, length-take, length-drop}
+use lib.ListN.{length, getD, set, take, drop, length-append, length-take, length-drop, take-append-drop}
 use lib.Seq.{take-at, drop-at, drop-drop}
-use borrow.Author.Tests.{le-leb, lt-ltb, le-ltb, eqb-false, ltb-false, not-true, not-false}
+use borrow.Author.Tests.{le-leb, lt-ltb, le-ltb, eqb-false, ltb-true, ltb-false, not-true, not-false}
 use borrow.Rule.Slice.PartMut.{putMid}
-use Rattle.octets.specs.Octets.{Octets}
+use Rattle.octets.specs.Octets.{Octets, pasted}
+use Rattle.octets.proofs.Laws.{part-from, lent-from, pasted-front, pasted-from}
 use Rattle.header.specs.Header.{maxHeader, header, writeHeader}
 use Rattle.header.specs.Answers.{roomShort}
+use Rattle.header.proofs.Laws.{header-size}
 use Rattle.header.specs.declared.Written.{Written}
 use Rattle.header.specs.declared.Written.the-variants.{Length, NoRoom}
 use Rattle.answers.specs.Answers.{done, storeInvalid, kidMissing, roleRefused, counterSpent, inputTooLong, first, Outcome, settled}
 use Rattle.answers.specs.Limits.{maxPlaintext, maxMetadata, tooLong}
-use Rattle.answers.proofs.Basics.{told-false, passes, settled-done, settled-refused}
+use Rattle.answers.proofs.Basics.{Two, yes′, no′, two, told-false, passes, settled-done, settled-refused}
 use Rattle.answers.proofs.Limits.{not-long}
 use Rattle.suites.specs.Suites.{Nt}
 use Rattle.suites.specs.inner.Sizes.{maxNt}
@@ -48,9 +50,9 @@ use Rattle.seal_frame.specs.Seal.{nextLength, sealCauses, causesOfSeal, 
 length-is : (a b : ℕ) → Length a ≡ Length b → a ≡ b
 length-is a b e = cc
 
-module _ (out : List ℕ) (kid v : ℕ) (w : Written) (h : maxHeader ≤ length out) (most : length (header kid v) ≤ maxHeader) (a : w ≡ writeHeader kid v out .answer) where
-  fits-in : leb (length (header kid v)) (length out) ≡ true
-  fits-in = le-leb (length (header kid v)) (length out) (omega (arith, most))
+module _ (out : List ℕ) (kid v : ℕ) (w : Written) (h : maxHeader ≤ length out) (most : length (header kid v) ≤ maxHeader) (a : w ≡ writeHeader kid v 0 out .answer) where
+  fits-in : leb (0 + length (header kid v)) (length out) ≡ true
+  fits-in = le-leb (0 + length (header kid v)) (length out) (omega (arith, most))
 
   pub header-has-room : w ≡ NoRoom → ⊥
   unfolding writeHeader
@@ -59,12 +61,12 @@ module _ (out : List ℕ) (kid v : ℕ) (w : Written) (h : maxHeader ≤ length 
       let z : _≡_ {A = ℕ} 0 1 = cc in
       omega arith
 
-  pub header-written : (ctr n : ℕ) (x : List ℕ) → v ≡ ctr → w ≡ Length n → x ≡ writeHeader kid v out .room
+  pub header-written : (ctr n : ℕ) (x : List ℕ) → v ≡ ctr → w ≡ Length n → x ≡ writeHeader kid v 0 out .room
       → ((n ≡ length (header kid ctr)) × (n ≤ maxHeader)) × (x ≡ header kid ctr ++ drop n out)
   unfolding writeHeader
   header-written ctr n x e u b =
       let s : n ≡ length (header kid v) = length-is n (length (header kid v)) (sym u ∙ rw fits-in at a) in
-      let q : x ≡ header kid v ++ drop (length (header kid v)) out = rw fits-in at b in
+      let q : x ≡ header kid v ++ drop (length (header kid v)) out = rw fits-in at b ∙ pasted-front out (header kid v) in
       ((s ∙ ap (λ (c : ℕ). length (header kid c)) e, omega (arith, most)), q ∙ ap₂ (λ (c i : ℕ). header kid c ++ drop i out) e (sym s))
 
 -- ---- the length of the next frame
@@ -80,12 +82,12 @@ length-fits plaintext n nt s p h e = let m = Suites.Nt-most s in omega arith
 -- ---- the causes
 
 module _ (held : KeyRecord) (kid metadata plaintext room : ℕ) where
-  pub judged-role : isEmpty held ≡ false → isSending held ≡ false → roleRefused ≡ first (causesOfSeal true held kid metadata plaintext room)
+  pub judged-role : isEmpty held ≡ false → isSending held ≡ false → roleRefused ≡ first (causesOfSeal true held kid metadata plaintext 0 room)
   unfolding causesOfSeal sealCauses first
   judged-role e d = rw (e, d)
 
   module _ (s : isSending held ≡ true) (b : Bool) (e : b ≡ not (eqb (counterOf held) ceiling)) where
-    pub judged-counter : not b ≡ true → counterSpent ≡ first (causesOfSeal true held kid metadata plaintext room)
+    pub judged-counter : not b ≡ true → counterSpent ≡ first (causesOfSeal true held kid metadata plaintext 0 room)
     unfolding causesOfSeal sealCauses first
     judged-counter h = rw (sends-held held s, s, not-false (eqb (counterOf held) ceiling) (sym e ∙ not-true b h))
 
@@ -94,18 +96,18 @@ module _ (held : KeyRecord) (kid metadata plaintext room : ℕ) where
       unspent = not-true (eqb (counterOf held) ceiling) (sym e ∙ not-false b left)
 
       module _ (t : Bool) (long : t ≡ tooLong plaintext metadata) where
-        pub judged-long : t ≡ true → inputTooLong ≡ first (causesOfSeal true held kid metadata plaintext room)
+        pub judged-long : t ≡ true → inputTooLong ≡ first (causesOfSeal true held kid metadata plaintext 0 room)
         unfolding causesOfSeal sealCauses first
         judged-long h = rw (sends-held held s, s, unspent, sym long ∙ h)
 
         module _ (short : t ≡ false) (n : ℕ) (size : n ≡ nextLength held kid plaintext) where
-          pub judged-room : room < n → roomShort ≡ first (causesOfSeal true held kid metadata plaintext room)
+          pub judged-room : room < n → roomShort ≡ first (causesOfSeal true held kid metadata plaintext 0 room)
           unfolding causesOfSeal sealCauses first
-          judged-room h = rw (sends-held held s, s, unspent, sym long ∙ short, ← size, lt-ltb room n h)
+          judged-room h = rw (sends-held held s, s, unspent, sym long ∙ short, ← size, lt-ltb room (0 + n) (omega arith))
 
-          pub judged-done : n ≤ room → done ≡ first (causesOfSeal true held kid metadata plaintext room)
+          pub judged-done : n ≤ room → done ≡ first (causesOfSeal true held kid metadata plaintext 0 room)
           unfolding causesOfSeal sealCauses first
-          judged-done h = rw (sends-held held s, s, unspent, sym long ∙ short, ← size, le-ltb room n h)
+          judged-done h = rw (sends-held held s, s, unspent, sym long ∙ short, ← size, le-ltb room (0 + n) (omega arith))
 
 -- what holds of a record where no cause applies
 pub record Clear (held : KeyRecord) (kid metadata plaintext room : ℕ) : Type 0 where
@@ -115,17 +117,17 @@ pub record Clear (held : KeyRecord) (kid metadata plaintext room : ℕ) : Type 0
   pub metadata-most : metadata ≤ maxMetadata
   pub room-enough : nextLength held kid plaintext ≤ room
 
-pub clear : (held : KeyRecord) (kid metadata plaintext room : ℕ) → first (causesOfSeal true held kid metadata plaintext room) ≡ done → Clear held kid metadata plaintext room
+pub clear : (held : KeyRecord) (kid metadata plaintext room : ℕ) → first (causesOfSeal true held kid metadata plaintext 0 room) ≡ done → Clear held kid metadata plaintext room
 unfolding causesOfSeal sealCauses
 clear held kid metadata plaintext room z =
-    let p = passes (sealCauses true held metadata plaintext (nextLength held kid plaintext) room) refl z in
+    let p = passes (sealCauses true held metadata plaintext (0 + nextLength held kid plaintext) room) refl z in
     let sizes = not-long plaintext metadata (p .1 .1 .1 .1 .0) in
     record {
       sends = not-false (isSending held) (p .1 .1 .0);
       counter-left = eqb-false (counterOf held) ceiling (p .1 .1 .1 .0);
       plaintext-most = sizes .0;
       metadata-most = sizes .1;
-      room-enough = ltb-false room (nextLength held kid plaintext) (p .1 .1 .1 .1 .1 .0);
+      room-enough = omega (arith, ltb-false room (0 + nextLength held kid plaintext) (p .1 .1 .1 .1 .1 .0));
     }
 
 -- ---- the frame
@@ -195,26 +197,26 @@ Leaves o number written store room = ((number ≡ o .number) × (written ≡ o .
 leaves : (o p : Outcome) → o ≡ p → Leaves o (p .number) (p .written) (p .store) (p .room)
 leaves o p e = ((sym (ap (λ (x : Outcome). x .number) e), sym (ap (λ (x : Outcome). x .written) e)), (sym (ap (λ (x : Outcome). x .store) e), sym (ap (λ (x : Outcome). x .room) e)))
 
--- the success of Seal on a table
+-- the success of Seal on a table, at the front of the room
 success : KeyRecord → List KeyRecord → ℕ → List ℕ → List ℕ → List ℕ → Outcome
 success held rs kid metadata plaintext room =
     let f = nextFrame sframe held kid metadata plaintext in
-    record { number = 0; written = length f; store = encodeAll (put kid (advanced held) rs); room = f ++ drop (length f) room }
+    record { number = 0; written = length f; store = encodeAll (put kid (advanced held) rs); room = pasted room 0 f }
 
 module _ (s : List ℕ) (kid : ℕ) (metadata plaintext room : List ℕ) where
-  pub seal-unsound : (r : Bool) → r ≡ sound s → not r ≡ true → Leaves (seal sframe s kid metadata plaintext room) storeInvalid 0 s room
+  pub seal-unsound : (r : Bool) → r ≡ sound s → not r ≡ true → Leaves (seal sframe s kid metadata plaintext 0 room) storeInvalid 0 s room
   unfolding seal sealAt causesOfSeal sealCauses first settled
   seal-unsound r e t = let f = told-false r _ e t in rw f ((refl, refl), (refl, refl))
 
   module _ (is-sound : sound s ≡ true) where
     -- what Seal comes to once the record is found
     outcome-of : (held : KeyRecord) → get kid (records s) ≡ held
-        → seal sframe s kid metadata plaintext room
-        ≡ settled (first (causesOfSeal true held kid (length metadata) (length plaintext) (length room))) s room (success held (records s) kid metadata plaintext room)
+        → seal sframe s kid metadata plaintext 0 room
+        ≡ settled (first (causesOfSeal true held kid (length metadata) (length plaintext) 0 (length room))) s room (success held (records s) kid metadata plaintext room)
     unfolding seal sealAt success
-    outcome-of held g = ap₂ (λ (v : Bool) (h : KeyRecord). sealAt sframe v h (records s) s kid metadata plaintext room) is-sound g
+    outcome-of held g = ap₂ (λ (v : Bool) (h : KeyRecord). sealAt sframe v h (records s) s kid metadata plaintext 0 room) is-sound g
 
-    pub seal-missing : (p : Place) → FoundIn p kid (records s) → p ≡ Nowhere → Leaves (seal sframe s kid metadata plaintext room) kidMissing 0 s room
+    pub seal-missing : (p : Place) → FoundIn p kid (records s) → p ≡ Nowhere → Leaves (seal sframe s kid metadata plaintext 0 room) kidMissing 0 s room
     unfolding causesOfSeal sealCauses first settled
     seal-missing p f w = let g : get kid (records s) ≡ empty = rw w at f in leaves _ _ (outcome-of empty g)
 
@@ -225,18 +227,18 @@ module _ (s : List ℕ) (kid : ℕ) (metadata plaintext room : List ℕ) where
       pub held-there : (l : List ℕ) → RowOf s i l → isEmpty (decode l) ≡ false
       held-there l r = ap isEmpty (r .1) ∙ holds-some kid (getD (records s) i empty) (found .2)
 
-      module _ (l : List ℕ) (r : RowOf s i l) (v : ℕ) (judged : v ≡ first (causesOfSeal true (decode l) kid (length metadata) (length plaintext) (length room))) where
-        pub seal-refused : (v ≡ done → ⊥) → Leaves (seal sframe s kid metadata plaintext room) v 0 s room
+      module _ (l : List ℕ) (r : RowOf s i l) (v : ℕ) (judged : v ≡ first (causesOfSeal true (decode l) kid (length metadata) (length plaintext) 0 (length room))) where
+        pub seal-refused : (v ≡ done → ⊥) → Leaves (seal sframe s kid metadata plaintext 0 room) v 0 s room
         seal-refused d =
             let o = outcome-of (decode l) (found .1 ∙ sym (r .1)) in
-            let q = settled-refused (first (causesOfSeal true (decode l) kid (length metadata) (length plaintext) (length room))) s room (success (decode l) (records s) kid metadata plaintext room) (λ z. d (judged ∙ z)) in
+            let q = settled-refused (first (causesOfSeal true (decode l) kid (length metadata) (length plaintext) 0 (length room))) s room (success (decode l) (records s) kid metadata plaintext room) (λ z. d (judged ∙ z)) in
             let k = leaves _ _ o in
             ((judged ∙ sym (q .number-is) ∙ k .0 .0, sym (q .nothing-written) ∙ k .0 .1), (sym (q .store-stays) ∙ k .1 .0, sym (q .room-stays) ∙ k .1 .1))
 
         module _ (z : v ≡ done) where
           -- what was judged of the record holds of its bytes whenever they are lent
-          pub judged-again : (m : List ℕ) → RowOf s i m → first (causesOfSeal true (decode m) kid (length metadata) (length plaintext) (length room)) ≡ done
-          judged-again m q = ap (λ (h : KeyRecord). first (causesOfSeal true h kid (length metadata) (length plaintext) (length room))) (q .1 ∙ sym (r .1)) ∙ sym judged ∙ z
+          pub judged-again : (m : List ℕ) → RowOf s i m → first (causesOfSeal true (decode m) kid (length metadata) (length plaintext) 0 (length room)) ≡ done
+          judged-again m q = ap (λ (h : KeyRecord). first (causesOfSeal true h kid (length metadata) (length plaintext) 0 (length room))) (q .1 ∙ sym (r .1)) ∙ sym judged ∙ z
 
           pub clear-there : Clear (getD (records s) i empty) kid (length metadata) (length plaintext) (length room)
           clear-there = rw (r .1) at (clear (decode l) kid (length metadata) (length plaintext) (length room) (sym judged ∙ z))
@@ -248,14 +250,62 @@ module _ (s : List ℕ) (kid : ℕ) (metadata plaintext room : List ℕ) where
 
           pub seal-done : Octets s → (m : List ℕ) → RowOf s i m → (n : ℕ) (x y : List ℕ) → n ≡ length (nextFrame sframe (decode m) kid metadata plaintext)
               → y ≡ nextFrame sframe (decode m) kid metadata plaintext ++ drop n room → x ≡ encodeAll (set (records s) i (advanced (getD (records s) i empty)))
-              → Leaves (seal sframe s kid metadata plaintext room) done n x y
+              → Leaves (seal sframe s kid metadata plaintext 0 room) done n x y
           unfolding success
           seal-done oc m q n x y b d g =
               let a : apart (records s) ≡ true = sound-stored s oc is-sound .table .kids-apart in
               let o = outcome-of (decode m) (found .1 ∙ sym (q .1)) ∙ settled-done _ s room (success (decode m) (records s) kid metadata plaintext room) (judged-again m q) in
               let u = leaves _ _ o in
-              let d′ = d ∙ ap (λ (j : ℕ). nextFrame sframe (decode m) kid metadata plaintext ++ drop j room) b in
+              let d′ = d ∙ ap (λ (j : ℕ). nextFrame sframe (decode m) kid metadata plaintext ++ drop j room) b ∙ sym (pasted-front room (nextFrame sframe (decode m) kid metadata plaintext)) in
               let g′ : x ≡ encodeAll (put kid (advanced (decode m)) (records s)) =
               g ∙ ap encodeAll (sym (put-at kid (advanced (getD (records s) i empty)) (records s) i a (found .2))) ∙ ap (λ (h : KeyRecord). encodeAll (put kid (advanced h) (records s))) (sym (q .1))
               in
               ((u .0 .0, b ∙ u .0 .1), (g′ ∙ u .1 .0, d′ ∙ u .1 .1))
+
+-- ---- at an offset
+
+-- what a call leaves whose room is the part of another room from an offset on
+settled-part : (n offset : ℕ) (s room part : List ℕ) (o p : Outcome) → part ≡ drop offset room → p .number ≡ o .number → p .written ≡ o .written → p .store ≡ o .store → take offset room ++ p .room ≡ o .room
+    → Leaves (settled n s room o) (settled n s part p .number) (settled n s part p .written) (settled n s part p .store) (take offset room ++ settled n s part p .room)
+unfolding settled
+settled-part zero offset s room part o p e a b c d = ((a, b), (c, d))
+settled-part (suc n) offset s room part o p e a b c d = ((refl, refl), (refl, ap (λ (t : List ℕ). take offset room ++ t) e ∙ take-append-drop offset room))
+
+-- the room is as short for a frame at the offset as the part from there on is for one at its front
+part-short : (held : KeyRecord) (kid plaintext offset : ℕ) (room : List ℕ)
+    → ltb (length (drop offset room)) (0 + nextLength held kid plaintext) ≡ ltb (length room) (offset + nextLength held kid plaintext)
+unfolding nextLength
+part-short held kid plaintext offset room = by (two (ltb (length room) (offset + nextLength held kid plaintext)))
+  where
+    by : Two (ltb (length room) (offset + nextLength held kid plaintext)) → ltb (length (drop offset room)) (0 + nextLength held kid plaintext) ≡ ltb (length room) (offset + nextLength held kid plaintext)
+    by (yes′ t) =
+        let h = ltb-true (length room) (offset + nextLength held kid plaintext) t in
+        let n = header-size kid (counterOf held) in
+        lt-ltb (length (drop offset room)) (0 + nextLength held kid plaintext) (simp length-drop (omega arith)) ∙ sym t
+    by (no′ t) =
+        let h = ltb-false (length room) (offset + nextLength held kid plaintext) t in
+        le-ltb (length (drop offset room)) (0 + nextLength held kid plaintext) (simp length-drop (omega arith)) ∙ sym t
+
+module _ (s : List ℕ) (kid : ℕ) (metadata plaintext : List ℕ) (offset i : ℕ) (room : List ℕ) (from : i ≡ min offset (length room)) where
+  same-causes : (valid : Bool) (held : KeyRecord)
+      → causesOfSeal valid held kid (length metadata) (length plaintext) 0 (length (drop offset room)) ≡ causesOfSeal valid held kid (length metadata) (length plaintext) offset (length room)
+  unfolding causesOfSeal sealCauses
+  same-causes valid held = rw (part-short held kid (length plaintext) offset room)
+
+  sealed-part : Leaves (seal sframe s kid metadata plaintext offset room)
+      (seal sframe s kid metadata plaintext 0 (drop offset room) .number)
+      (seal sframe s kid metadata plaintext 0 (drop offset room) .written)
+      (seal sframe s kid metadata plaintext 0 (drop offset room) .store)
+      (take offset room ++ seal sframe s kid metadata plaintext 0 (drop offset room) .room)
+  unfolding seal sealAt
+  sealed-part =
+      rw (same-causes (sound s) (get kid (records s)))
+      (settled-part (first (causesOfSeal (sound s) (get kid (records s)) kid (length metadata) (length plaintext) offset (length room))) offset s room (drop offset room) _ _ refl refl refl refl
+      (pasted-from room offset (nextFrame sframe (get kid (records s)) kid metadata plaintext)))
+
+  pub sealed-at : (number written : ℕ) (store p : List ℕ) → Leaves (seal sframe s kid metadata plaintext 0 (take (length room - i) (drop i room))) number written store p
+      → Leaves (seal sframe s kid metadata plaintext offset room) number written store (putMid i (length room - i) room p)
+  sealed-at number written store p l =
+      let k : Leaves (seal sframe s kid metadata plaintext 0 (drop offset room)) number written store p = rw (part-from room offset i from) at l in
+      let q = sealed-part in
+      ((k .0 .0 ∙ q .0 .0, k .0 .1 ∙ q .0 .1), (k .1 .0 ∙ q .1 .0, lent-from room p offset i from ∙ ap (λ (t : List ℕ). take offset room ++ t) (k .1 .1) ∙ q .1 .1))

@@ -2,10 +2,11 @@
 -- which they are tried.
 -- Assumes nothing.
 use mathlib.Core.Bool.{Bool, not}
-use mathlib.Core.List.{List, [], _∷_, _++_}
+use mathlib.Core.List.{List, [], _∷_}
 use Prim.Native.Nat.{ℕ, _+_}
 use lib.Dec.{ltb, eqb}
-use lib.ListN.{length, drop}
+use lib.ListN.{length}
+use Rattle.octets.specs.Octets.{pasted}
 use Rattle.header.specs.Header.{header}
 use Rattle.header.specs.Answers.{roomShort}
 use Rattle.answers.specs.Answers.{storeInvalid, kidMissing, roleRefused, counterSpent, inputTooLong, Cause, _if_, first, Outcome, settled}
@@ -33,21 +34,22 @@ sealCauses valid held metadata plaintext needed room =
     ∷ (roomShort if ltb room needed)
     ∷ []
 
--- The causes of a Seal: the room must take the whole frame.
-unfoldable pub causesOfSeal : (valid : Bool) (held : KeyRecord) (kid metadata plaintext room : ℕ) → List Cause
-causesOfSeal valid held kid metadata plaintext room = sealCauses valid held metadata plaintext (nextLength held kid plaintext) room
+-- The causes of a Seal: the room must take the offset and the whole frame together.
+unfoldable pub causesOfSeal : (valid : Bool) (held : KeyRecord) (kid metadata plaintext offset room : ℕ) → List Cause
+causesOfSeal valid held kid metadata plaintext offset room = sealCauses valid held metadata plaintext (offset + nextLength held kid plaintext) room
 
 module _ (cipher : Cipher) where
   -- The frame that a sending record gives next.
   unfoldable pub nextFrame : (held : KeyRecord) (kid : ℕ) (metadata plaintext : List ℕ) → List ℕ
   nextFrame held kid metadata plaintext = frame cipher (suiteOf held) (keyOf held) (saltOf held) kid (counterOf held) metadata plaintext
 
-  -- The frame stands at the start of the room, and the counter is used up.
-  unfoldable pub sealAt : (valid : Bool) (held : KeyRecord) (rs : List KeyRecord) (s : List ℕ) (kid : ℕ) (metadata plaintext room : List ℕ) → Outcome
-  sealAt valid held rs s kid metadata plaintext room =
+  -- The frame stands at the offset in the room, the bytes before it and behind it stay, and the counter is used up. The length that
+  -- is answered is the frame's.
+  unfoldable pub sealAt : (valid : Bool) (held : KeyRecord) (rs : List KeyRecord) (s : List ℕ) (kid : ℕ) (metadata plaintext : List ℕ) (offset : ℕ) (room : List ℕ) → Outcome
+  sealAt valid held rs s kid metadata plaintext offset room =
       let f = nextFrame held kid metadata plaintext in
-      settled (first (causesOfSeal valid held kid (length metadata) (length plaintext) (length room))) s room
-      (record { number = 0; written = length f; store = encodeAll (put kid (advanced held) rs); room = f ++ drop (length f) room })
+      settled (first (causesOfSeal valid held kid (length metadata) (length plaintext) offset (length room))) s room
+      (record { number = 0; written = length f; store = encodeAll (put kid (advanced held) rs); room = pasted room offset f })
 
-  unfoldable pub seal : (s : List ℕ) (kid : ℕ) (metadata plaintext room : List ℕ) → Outcome
-  seal s kid metadata plaintext room = sealAt (sound s) (get kid (records s)) (records s) s kid metadata plaintext room
+  unfoldable pub seal : (s : List ℕ) (kid : ℕ) (metadata plaintext : List ℕ) (offset : ℕ) (room : List ℕ) → Outcome
+  seal s kid metadata plaintext offset room = sealAt (sound s) (get kid (records s)) (records s) s kid metadata plaintext offset room

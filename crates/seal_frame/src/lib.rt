@@ -58,7 +58,7 @@ fn next_length(row: &[u8], kid: Kid, plaintext: usize) -> usize
 // The number of the first cause for which a held record refuses to seal; 0 where there is none.
 fn judge(row: &[u8], kid: Kid, metadata: usize, plaintext: usize, room: usize) -> u32
     requires { ⌜ (Row (now row)) × (isEmpty (decode (now row)) ≡ false) ⌝ }
-    ensures { λ r. ⌜ r ≡ first (causesOfSeal true (decode (now (row .entry))) (kid .0) metadata plaintext room) ⌝ }
+    ensures { λ r. ⌜ r ≡ first (causesOfSeal true (decode (now (row .entry))) (kid .0) metadata plaintext 0 room) ⌝ }
 {
     if !key_record::row::is_sending(row) {
         return ROLE_REFUSED;
@@ -98,7 +98,7 @@ fn encrypt_next(
 // Writes a record's next frame to the front of the room, where nothing is against it.
 fn write_frame(row: &[u8], kid: Kid, metadata: &[u8], plaintext: &[u8], room: &mut [u8]) -> usize
     requires { ⌜ Row (now row) ⌝ }
-    requires { ⌜ first (causesOfSeal true (decode (now row)) (kid .0) (length (now metadata)) (length (now plaintext)) (length (now room))) ≡ done ⌝ }
+    requires { ⌜ first (causesOfSeal true (decode (now row)) (kid .0) (length (now metadata)) (length (now plaintext)) 0 (length (now room))) ≡ done ⌝ }
     ensures { λ r. ⌜ r ≡ length (nextFrame sframe (decode (now (row .entry))) (kid .0) (now (metadata .entry)) (now (plaintext .entry))) ⌝ }
     ensures { λ r. ⌜ now (room .exit) ≡ nextFrame sframe (decode (now (row .entry))) (kid .0) (now (metadata .entry)) (now (plaintext .entry)) ++ drop r (now (room .entry)) ⌝ }
 {
@@ -127,9 +127,9 @@ pub fn seal(
     plaintext: &[u8],
     room: &mut [u8],
 ) -> Answer
-    ensures { λ r. ⌜ (r .number ≡ seal sframe (now (store .entry)) (kid .0) (now (metadata .entry)) (now (plaintext .entry)) (now (room .entry)) .number) × (r .length ≡ seal sframe (now (store .entry)) (kid .0) (now (metadata .entry)) (now (plaintext .entry)) (now (room .entry)) .written) ⌝ }
-    ensures { λ _. ⌜ now (store .exit) ≡ seal sframe (now (store .entry)) (kid .0) (now (metadata .entry)) (now (plaintext .entry)) (now (room .entry)) .store ⌝ }
-    ensures { λ _. ⌜ now (room .exit) ≡ seal sframe (now (store .entry)) (kid .0) (now (metadata .entry)) (now (plaintext .entry)) (now (room .entry)) .room ⌝ }
+    ensures { λ r. ⌜ (r .number ≡ seal sframe (now (store .entry)) (kid .0) (now (metadata .entry)) (now (plaintext .entry)) 0 (now (room .entry)) .number) × (r .length ≡ seal sframe (now (store .entry)) (kid .0) (now (metadata .entry)) (now (plaintext .entry)) 0 (now (room .entry)) .written) ⌝ }
+    ensures { λ _. ⌜ now (store .exit) ≡ seal sframe (now (store .entry)) (kid .0) (now (metadata .entry)) (now (plaintext .entry)) 0 (now (room .entry)) .store ⌝ }
+    ensures { λ _. ⌜ now (room .exit) ≡ seal sframe (now (store .entry)) (kid .0) (now (metadata .entry)) (now (plaintext .entry)) 0 (now (room .entry)) .room ⌝ }
 {
     if !store::is_sound(store) {
         return refused(STORE_INVALID);
@@ -153,4 +153,22 @@ pub fn seal(
         number: DONE,
         length,
     }
+}
+
+// Seals with the frame at an offset in the room: the part from there on is lent to seal, and none of it where the offset lies
+// past the end.
+pub fn seal_at(
+    store: &mut [u8],
+    kid: Kid,
+    metadata: &[u8],
+    plaintext: &[u8],
+    room: &mut [u8],
+    offset: usize,
+) -> Answer
+    ensures { λ r. ⌜ (r .number ≡ seal sframe (now (store .entry)) (kid .0) (now (metadata .entry)) (now (plaintext .entry)) offset (now (room .entry)) .number) × (r .length ≡ seal sframe (now (store .entry)) (kid .0) (now (metadata .entry)) (now (plaintext .entry)) offset (now (room .entry)) .written) ⌝ }
+    ensures { λ _. ⌜ now (store .exit) ≡ seal sframe (now (store .entry)) (kid .0) (now (metadata .entry)) (now (plaintext .entry)) offset (now (room .entry)) .store ⌝ }
+    ensures { λ _. ⌜ now (room .exit) ≡ seal sframe (now (store .entry)) (kid .0) (now (metadata .entry)) (now (plaintext .entry)) offset (now (room .entry)) .room ⌝ }
+{
+    let from = octets::min(offset, room.len());
+    seal(store, kid, metadata, plaintext, &mut room[from..])
 }

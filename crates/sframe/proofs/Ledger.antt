@@ -5,7 +5,7 @@ use mathlib.Core.List.{List, [], _∷_}
 use Prim.Native.Nat.{ℕ, _/_, _^_, _<_, _≤_}
 use native.Mathlib.Omega.{arith}
 use lib.Dec.{eqb}
-use lib.ListN.{length, take, replicate}
+use lib.ListN.{length, take, drop, replicate}
 use borrow.Author.Tests.{eq-eqb, ne-eqb, eqb-true, eqb-false}
 use Rattle.octets.specs.Octets.{Octets, pick}
 use Rattle.header.specs.Answers.{readKid, readCtr}
@@ -152,8 +152,8 @@ senders-sealed : (kid : ℕ) (x : Sealing) (log : List Event) → senders kid (s
 unfolding senders
 senders-sealed kid x log = refl
 
-abbrev sealingOf : List ℕ → List ℕ → Outcome → Sealing
-sealingOf metadata plaintext o = record { metadata = metadata; plaintext = plaintext; frame = take (o .written) (o .room) }
+abbrev sealingOf : (metadata plaintext : List ℕ) (offset : ℕ) → Outcome → Sealing
+sealingOf metadata plaintext offset o = record { metadata = metadata; plaintext = plaintext; frame = take (o .written) (drop offset (o .room)) }
 
 abbrev addingOf : Role → ℕ → ℕ → List ℕ → Adding
 addingOf role kid suite base = record { role = role; kid = kid; suite = suite; base = base }
@@ -217,11 +217,11 @@ module _ (cipher : Cipher) (rs : List KeyRecord) (log : List Event) (a : Account
 
   -- ---- Seal
 
-  module _ (metadata plaintext : List ℕ) (o : Outcome) (r : SendingKey) (om : Octets metadata) (op : Octets plaintext) (p : Sealed cipher rs kid metadata plaintext o r) where
+  module _ (metadata plaintext : List ℕ) (offset : ℕ) (o : Outcome) (r : SendingKey) (om : Octets metadata) (op : Octets plaintext) (p : Sealed cipher rs kid metadata plaintext offset o r) where
     source : Source cipher r (senders kid log)
     source = rw (p .found) at (a .ledger kid)
 
-    sealed-fact : Fact cipher (sealingOf metadata plaintext o) log
+    sealed-fact : Fact cipher (sealingOf metadata plaintext offset o) log
     sealed-fact = record {
       kid = kid;
       ctr = r .counter;
@@ -239,25 +239,25 @@ module _ (cipher : Cipher) (rs : List KeyRecord) (log : List Event) (a : Account
       metadata-most = p .metadata-most;
     }
 
-    x-kid : kidOf (sealingOf metadata plaintext o) ≡ kid
+    x-kid : kidOf (sealingOf metadata plaintext offset o) ≡ kid
     unfolding sealed-fact
-    x-kid = fact-kid cipher (sealingOf metadata plaintext o) log sealed-fact
+    x-kid = fact-kid cipher (sealingOf metadata plaintext offset o) log sealed-fact
 
-    x-ctr : ctrOf (sealingOf metadata plaintext o) ≡ r .counter
+    x-ctr : ctrOf (sealingOf metadata plaintext offset o) ≡ r .counter
     unfolding sealed-fact
-    x-ctr = fact-ctr cipher (sealingOf metadata plaintext o) log sealed-fact
+    x-ctr = fact-ctr cipher (sealingOf metadata plaintext offset o) log sealed-fact
 
-    sealed-below : (y : Sealing) (l : List Event) → Covered rs y l → Below (sealingOf metadata plaintext o) y l
+    sealed-below : (y : Sealing) (l : List Event) → Covered rs y l → Below (sealingOf metadata plaintext offset o) y l
     sealed-below y l q e =
         let same-kid : kidOf y ≡ kid = e ∙ x-kid in
         let c : counterOf (get (kidOf y) rs) ≡ r .counter = ap (λ (k : ℕ). counterOf (get k rs)) same-kid ∙ ap counterOf (p .found) in
         rw x-ctr (omega (arith, q))
 
-    sealed-account : Account cipher (put kid (next r) rs) (sealed (sealingOf metadata plaintext o) ∷ log)
+    sealed-account : Account cipher (put kid (next r) rs) (sealed (sealingOf metadata plaintext offset o) ∷ log)
     unfolding senders
     sealed-account = record {
       ledger =
-          ledger-change cipher kid (next r) rs (put kid (next r) rs) (p .change) log (sealed (sealingOf metadata plaintext o) ∷ log) (a .ledger) (λ k d. refl)
+          ledger-change cipher kid (next r) rs (put kid (next r) rs) (p .change) log (sealed (sealingOf metadata plaintext offset o) ∷ log) (a .ledger) (λ k d. refl)
           (record {
             add = source .add;
             only = source .only;
@@ -267,7 +267,7 @@ module _ (cipher : Cipher) (rs : List KeyRecord) (log : List Event) (a : Account
             key-is = source .key-is;
             base-octets = source .base-octets;
           });
-      frames = ((sealed-fact, each-map (Covered rs) (Below (sealingOf metadata plaintext o)) sealed-below log (a .covered)), a .frames);
+      frames = ((sealed-fact, each-map (Covered rs) (Below (sealingOf metadata plaintext offset o)) sealed-below log (a .covered)), a .frames);
       covered = (
         rw (x-kid, x-ctr, p .change .at-kid) (omega arith),
         covered-change cipher kid (next r) rs (put kid (next r) rs) (p .change) (rw (p .found) (omega arith)) log (a .covered),
@@ -313,13 +313,13 @@ module _ (cipher : Cipher) (laws : Laws cipher) where
           goes-on cipher h i _ (clear kid (i .table)) other other st refl (freed-account cipher (i .table) (h .log) (i .account) kid r (clear kid (i .table)) g c)
       by (RemoveStep.closed r z g c st) =
           goes-on cipher h i _ (put kid (kept (sending r)) (i .table)) other other st refl (closed-account cipher (i .table) (h .log) (i .account) kid r (put kid (kept (sending r)) (i .table)) g c)
-  step-keeps (Seal kid metadata plaintext room) h q i = by (seal-step cipher laws (h .store) (i .table) (i .is-stored) kid metadata plaintext room)
+  step-keeps (Seal kid metadata plaintext offset room) h q i = by (seal-step cipher laws (h .store) (i .table) (i .is-stored) kid metadata plaintext offset room)
     where
-      by : SealStep cipher (h .store) (i .table) kid metadata plaintext (seal cipher (h .store) kid metadata plaintext room) → Inv cipher (step cipher (Seal kid metadata plaintext room) h)
+      by : SealStep cipher (h .store) (i .table) kid metadata plaintext offset (seal cipher (h .store) kid metadata plaintext offset room) → Inv cipher (step cipher (Seal kid metadata plaintext offset room) h)
       by (SealStep.refused d e) = stays cipher h i _ _ e (passed-by _ _ d)
       by (SealStep.done r p) =
-          goes-on cipher h i _ (put kid (next r) (i .table)) _ (sealed (sealingOf metadata plaintext (seal cipher (h .store) kid metadata plaintext room))) (p .store-is) (happened _ _ (p .answers))
-          (sealed-account cipher (i .table) (h .log) (i .account) kid metadata plaintext (seal cipher (h .store) kid metadata plaintext room) r (q .1) (q .2) p)
+          goes-on cipher h i _ (put kid (next r) (i .table)) _ (sealed (sealingOf metadata plaintext offset (seal cipher (h .store) kid metadata plaintext offset room))) (p .store-is) (happened _ _ (p .answers))
+          (sealed-account cipher (i .table) (h .log) (i .account) kid metadata plaintext offset (seal cipher (h .store) kid metadata plaintext offset room) r (q .1) (q .2) p)
   step-keeps (Open metadata bytes room) h q i = stays cipher h i _ _ (open-store cipher (h .store) metadata bytes room) refl
 
   pub run-keeps : (cs : List Call) (h : History) → AllTyped cs → Inv cipher h → Inv cipher (run cipher cs h)

@@ -56,15 +56,15 @@ module _ (cipher : Cipher) (laws : Laws cipher) (s : List ℕ) (kid place : ℕ)
   here : get kid (records s) ≡ getD (records s) place empty
   here = get-at kid (records s) place (st .table .kids-apart) h
 
-  module _ (metadata plaintext room : List ℕ) where
-    seal-at : seal cipher s kid metadata plaintext room ≡ sealAt cipher true (getD (records s) place empty) (records s) s kid metadata plaintext room
-    seal-at = seal-on cipher laws s (records s) st kid metadata plaintext room ∙ ap (λ (x : KeyRecord). sealAt cipher true x (records s) s kid metadata plaintext room) here
+  module _ (metadata plaintext : List ℕ) (offset : ℕ) (room : List ℕ) where
+    seal-at : seal cipher s kid metadata plaintext offset room ≡ sealAt cipher true (getD (records s) place empty) (records s) s kid metadata plaintext offset room
+    seal-at = seal-on cipher laws s (records s) st kid metadata plaintext offset room ∙ ap (λ (x : KeyRecord). sealAt cipher true x (records s) s kid metadata plaintext offset room) here
 
-    seal-record : getD (records (seal cipher s kid metadata plaintext room .store)) place empty ≡ newRecord (seal cipher s kid metadata plaintext room .number) (getD (records s) place empty)
+    seal-record : getD (records (seal cipher s kid metadata plaintext offset room .store)) place empty ≡ newRecord (seal cipher s kid metadata plaintext offset room .number) (getD (records s) place empty)
     unfolding newRecord advanced
-    seal-record = by (seal cipher s kid metadata plaintext room) (seal-step cipher laws s (records s) st kid metadata plaintext room)
+    seal-record = by (seal cipher s kid metadata plaintext offset room) (seal-step cipher laws s (records s) st kid metadata plaintext offset room)
       where
-        by : (o : Outcome) → SealStep cipher s (records s) kid metadata plaintext o → getD (records (o .store)) place empty ≡ newRecord (o .number) (getD (records s) place empty)
+        by : (o : Outcome) → SealStep cipher s (records s) kid metadata plaintext offset o → getD (records (o .store)) place empty ≡ newRecord (o .number) (getD (records s) place empty)
         by o (SealStep.done r p) =
             ap (λ (x : List KeyRecord). getD x place empty) (stored-records (o .store) (put kid (next r) (records s)) (p .store-is))
             ∙ ap (λ (x : List KeyRecord). getD x place empty) (put-at kid (next r) (records s) place (st .table .kids-apart) h)
@@ -76,10 +76,10 @@ module _ (cipher : Cipher) (laws : Laws cipher) (s : List ℕ) (kid place : ℕ)
             stays zero d = absurd (d refl)
             stays (suc n) d = refl
 
-    seal-others : OthersStay s (seal cipher s kid metadata plaintext room) place
-    seal-others = by (seal cipher s kid metadata plaintext room) (seal-step cipher laws s (records s) st kid metadata plaintext room)
+    seal-others : OthersStay s (seal cipher s kid metadata plaintext offset room) place
+    seal-others = by (seal cipher s kid metadata plaintext offset room) (seal-step cipher laws s (records s) st kid metadata plaintext offset room)
       where
-        by : (o : Outcome) → SealStep cipher s (records s) kid metadata plaintext o → OthersStay s o place
+        by : (o : Outcome) → SealStep cipher s (records s) kid metadata plaintext offset o → OthersStay s o place
         by o (SealStep.refused d e) = record { length-stays = ap length e; others-stay = λ j d. ap (λ (x : List ℕ). getD (records x) j empty) e }
         by o (SealStep.done r p) =
             let q = put-at kid (next r) (records s) place (st .table .kids-apart) h in
@@ -95,33 +95,33 @@ module _ (cipher : Cipher) (laws : Laws cipher) (s t : List ℕ) (kid place : �
   t-holds : holds kid (getD (records t) place empty) ≡ true
   t-holds = rw (a .alike) at (a .holds-kid)
 
-  module _ (metadata plaintext room : List ℕ) where
-    on-s : seal cipher s kid metadata plaintext room ≡ sealAt cipher true (getD (records s) place empty) (records s) s kid metadata plaintext room
-    on-s = seal-at cipher laws s kid place (a .s-octets) (a .s-sound) (a .holds-kid) metadata plaintext room
+  module _ (metadata plaintext : List ℕ) (offset : ℕ) (room : List ℕ) where
+    on-s : seal cipher s kid metadata plaintext offset room ≡ sealAt cipher true (getD (records s) place empty) (records s) s kid metadata plaintext offset room
+    on-s = seal-at cipher laws s kid place (a .s-octets) (a .s-sound) (a .holds-kid) metadata plaintext offset room
 
-    on-t : seal cipher t kid metadata plaintext room ≡ sealAt cipher true (getD (records s) place empty) (records t) t kid metadata plaintext room
+    on-t : seal cipher t kid metadata plaintext offset room ≡ sealAt cipher true (getD (records s) place empty) (records t) t kid metadata plaintext offset room
     on-t =
-        seal-at cipher laws t kid place (a .t-octets) (a .t-sound) t-holds metadata plaintext room
-        ∙ ap (λ (x : KeyRecord). sealAt cipher true x (records t) t kid metadata plaintext room) (sym (a .alike))
+        seal-at cipher laws t kid place (a .t-octets) (a .t-sound) t-holds metadata plaintext offset room
+        ∙ ap (λ (x : KeyRecord). sealAt cipher true x (records t) t kid metadata plaintext offset room) (sym (a .alike))
 
-    answers : Agree (sealAt cipher true (getD (records s) place empty) (records s) s kid metadata plaintext room) (sealAt cipher true (getD (records s) place empty) (records t) t kid metadata plaintext room)
+    answers : Agree (sealAt cipher true (getD (records s) place empty) (records s) s kid metadata plaintext offset room) (sealAt cipher true (getD (records s) place empty) (records t) t kid metadata plaintext offset room)
     unfolding sealAt
     answers = settled-agree _ s t room _ _ (refl, refl, refl)
 
-    number-same : seal cipher s kid metadata plaintext room .number ≡ seal cipher t kid metadata plaintext room .number
+    number-same : seal cipher s kid metadata plaintext offset room .number ≡ seal cipher t kid metadata plaintext offset room .number
     number-same = ap (λ (o : Outcome). o .number) on-s ∙ answers .0 ∙ sym (ap (λ (o : Outcome). o .number) on-t)
 
-    pub neighbours-seal : SameAnswer s t place (seal cipher s kid metadata plaintext room) (seal cipher t kid metadata plaintext room)
+    pub neighbours-seal : SameAnswer s t place (seal cipher s kid metadata plaintext offset room) (seal cipher t kid metadata plaintext offset room)
     neighbours-seal = record {
       same-number = number-same;
       same-length = ap (λ (o : Outcome). o .written) on-s ∙ answers .1 ∙ sym (ap (λ (o : Outcome). o .written) on-t);
       same-room = ap (λ (o : Outcome). o .room) on-s ∙ answers .2 ∙ sym (ap (λ (o : Outcome). o .room) on-t);
       same-record =
-          seal-record cipher laws s kid place (a .s-octets) (a .s-sound) (a .holds-kid) metadata plaintext room
+          seal-record cipher laws s kid place (a .s-octets) (a .s-sound) (a .holds-kid) metadata plaintext offset room
           ∙ ap₂ newRecord number-same (a .alike)
-          ∙ sym (seal-record cipher laws t kid place (a .t-octets) (a .t-sound) t-holds metadata plaintext room);
-      s-others = seal-others cipher laws s kid place (a .s-octets) (a .s-sound) (a .holds-kid) metadata plaintext room;
-      t-others = seal-others cipher laws t kid place (a .t-octets) (a .t-sound) t-holds metadata plaintext room;
+          ∙ sym (seal-record cipher laws t kid place (a .t-octets) (a .t-sound) t-holds metadata plaintext offset room);
+      s-others = seal-others cipher laws s kid place (a .s-octets) (a .s-sound) (a .holds-kid) metadata plaintext offset room;
+      t-others = seal-others cipher laws t kid place (a .t-octets) (a .t-sound) t-holds metadata plaintext offset room;
     }
 
 module _ (cipher : Cipher) (laws : Laws cipher) (s t : List ℕ) (place : ℕ) (metadata bytes room : List ℕ) (a : Alike s t (readKid (readHeader bytes)) place) where

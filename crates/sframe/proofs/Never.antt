@@ -51,9 +51,9 @@ module _ (cipher : Cipher) (laws : Laws cipher) where
       by (yes′ t) = rw t (fresh-add h role kid suite base (q .0) (q .1) i (eqb-true _ 0 t), p)
       by (no′ t) = rw t p
   fresh-step (Remove kid) h q i p = p
-  fresh-step (Seal kid metadata plaintext room) h q i p = by (two (eqb (seal cipher (h .store) kid metadata plaintext room .number) 0))
+  fresh-step (Seal kid metadata plaintext offset room) h q i p = by (two (eqb (seal cipher (h .store) kid metadata plaintext offset room .number) 0))
     where
-      by : Two (eqb (seal cipher (h .store) kid metadata plaintext room .number) 0) → Fresh (step cipher (Seal kid metadata plaintext room) h .log)
+      by : Two (eqb (seal cipher (h .store) kid metadata plaintext offset room .number) 0) → Fresh (step cipher (Seal kid metadata plaintext offset room) h .log)
       by (yes′ t) = rw t p
       by (no′ t) = rw t p
   fresh-step (Open metadata frame room) h q i p = p

@@ -43,10 +43,10 @@ module _ (cipher : Cipher) (laws : Laws cipher) where
       by x (RemoveStep.freed r z g c t) = sound-bytes (x .store) _ t
       by x (RemoveStep.closed r z g c t) = sound-bytes (x .store) _ t
       by x (RemoveStep.refused d p) = rw p (o, e)
-  call-sound (Seal kid metadata plaintext room) s q o e =
-      by (seal cipher s kid metadata plaintext room) (seal-step cipher laws s (records s) (sound-stored s o e) kid metadata plaintext room)
+  call-sound (Seal kid metadata plaintext offset room) s q o e =
+      by (seal cipher s kid metadata plaintext offset room) (seal-step cipher laws s (records s) (sound-stored s o e) kid metadata plaintext offset room)
     where
-      by : (x : Outcome) → SealStep cipher s (records s) kid metadata plaintext x → Octets (x .store) × (sound (x .store) ≡ true)
+      by : (x : Outcome) → SealStep cipher s (records s) kid metadata plaintext offset x → Octets (x .store) × (sound (x .store) ≡ true)
       by x (SealStep.done r p) = sound-bytes (x .store) _ (p .store-is)
       by x (SealStep.refused d p) = rw p (o, e)
   call-sound (Open metadata bytes room) s q o e = rw (open-store cipher s metadata bytes room) (o, e)
@@ -64,5 +64,5 @@ pub refusal-changes-nothing : (cipher : Cipher) (c : Call) (s : List ℕ) → (o
 unfolding outcome add addAt remove removeAt seal sealAt opening openAt
 refusal-changes-nothing cipher (Add role kid suite base) s d = let u = unchanged _ s [] _ refl d in record { nothing-written = u .0; store-stays = u .1; room-stays = u .2 }
 refusal-changes-nothing cipher (Remove kid) s d = let u = unchanged _ s [] _ refl d in record { nothing-written = u .0; store-stays = u .1; room-stays = u .2 }
-refusal-changes-nothing cipher (Seal kid metadata plaintext room) s d = let u = unchanged _ s room _ refl d in record { nothing-written = u .0; store-stays = u .1; room-stays = u .2 }
+refusal-changes-nothing cipher (Seal kid metadata plaintext offset room) s d = let u = unchanged _ s room _ refl d in record { nothing-written = u .0; store-stays = u .1; room-stays = u .2 }
 refusal-changes-nothing cipher (Open metadata bytes room) s d = let u = unchanged _ s room _ refl d in record { nothing-written = u .0; store-stays = u .1; room-stays = u .2 }

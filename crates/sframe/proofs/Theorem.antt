@@ -50,8 +50,8 @@ pub opening-exact : (s metadata bytes room : List ℕ) (r : ReceivingKey) (ctr n
 opening-exact = opens-exactly sframe suites-laws
 
 -- Sealing and opening depend on other records only through soundness, and change none of them.
-pub sealing-alone : (s t : List ℕ) (kid place : ℕ) → Alike s t kid place → (metadata plaintext room : List ℕ)
-    → SameAnswer s t place (seal sframe s kid metadata plaintext room) (seal sframe t kid metadata plaintext room)
+pub sealing-alone : (s t : List ℕ) (kid place : ℕ) → Alike s t kid place → (metadata plaintext : List ℕ) (offset : ℕ) (room : List ℕ)
+    → SameAnswer s t place (seal sframe s kid metadata plaintext offset room) (seal sframe t kid metadata plaintext offset room)
 sealing-alone = neighbours-seal sframe suites-laws
 
 pub opening-alone : (s t : List ℕ) (place : ℕ) (metadata bytes room : List ℕ) → Alike s t (readKid (readHeader bytes)) place

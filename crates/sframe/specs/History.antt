@@ -3,7 +3,7 @@
 use mathlib.Core.List.{List, [], _∷_}
 use Prim.Native.Nat.{ℕ, _^_, _<_}
 use lib.Dec.{eqb}
-use lib.ListN.{take}
+use lib.ListN.{take, drop}
 use Rattle.octets.specs.Octets.{Octets, pick}
 use Rattle.answers.specs.Answers.{Outcome}
 use Rattle.store.specs.Calls.{make, remove}
@@ -17,21 +17,21 @@ use Rattle.key_record.specs.declared.Role.{Role}
 pub data Call : Type 0 where
   Add : (role : Role) (kid suite : ℕ) (base : List ℕ) → Call
   Remove : (kid : ℕ) → Call
-  Seal : (kid : ℕ) (metadata plaintext room : List ℕ) → Call
+  Seal : (kid : ℕ) (metadata plaintext : List ℕ) (offset : ℕ) (room : List ℕ) → Call
   Open : (metadata frame room : List ℕ) → Call
 
 -- The inputs are what the types of the code admit: a KID has 64 bits, everything lent is bytes.
 abbrev pub Typed : Call → Type 0
 Typed (Add role kid suite base) = (kid < 2 ^ 64) × Octets base
 Typed (Remove kid) = kid < 2 ^ 64
-Typed (Seal kid metadata plaintext room) = (kid < 2 ^ 64) × Octets metadata × Octets plaintext × Octets room
+Typed (Seal kid metadata plaintext offset room) = (kid < 2 ^ 64) × Octets metadata × Octets plaintext × Octets room
 Typed (Open metadata frame room) = Octets metadata × Octets frame × Octets room
 
 -- The room that a call is lent.
 abbrev pub roomOf : Call → List ℕ
 roomOf (Add role kid suite base) = []
 roomOf (Remove kid) = []
-roomOf (Seal kid metadata plaintext room) = room
+roomOf (Seal kid metadata plaintext offset room) = room
 roomOf (Open metadata frame room) = room
 
 abbrev pub AllTyped : List Call → Type 0
@@ -45,7 +45,7 @@ pub record Adding : Type 0 where
   pub suite : ℕ
   pub base : List ℕ
 
--- A Seal that answered 0, with the bytes that it wrote as its result: a "sealed frame".
+-- A Seal that answered 0, with the bytes that it wrote as its result, those at the offset: a "sealed frame".
 pub record Sealing : Type 0 where
   pub metadata : List ℕ
   pub plaintext : List ℕ
@@ -60,7 +60,7 @@ pub data Event : Type 0 where
 unfoldable pub event : Call → Outcome → Event
 event (Add role kid suite base) o = pick (eqb (o .number) 0) (added (record { role = role; kid = kid; suite = suite; base = base })) other
 event (Remove kid) o = other
-event (Seal kid metadata plaintext room) o = pick (eqb (o .number) 0) (sealed (record { metadata = metadata; plaintext = plaintext; frame = take (o .written) (o .room) })) other
+event (Seal kid metadata plaintext offset room) o = pick (eqb (o .number) 0) (sealed (record { metadata = metadata; plaintext = plaintext; frame = take (o .written) (drop offset (o .room)) })) other
 event (Open metadata frame room) o = other
 
 -- The store, and the events so far, the newest first.
@@ -72,7 +72,7 @@ module _ (cipher : Cipher) where
   unfoldable pub outcome : Call → List ℕ → Outcome
   outcome (Add role kid suite base) s = add cipher s role kid suite base
   outcome (Remove kid) s = remove s kid
-  outcome (Seal kid metadata plaintext room) s = seal cipher s kid metadata plaintext room
+  outcome (Seal kid metadata plaintext offset room) s = seal cipher s kid metadata plaintext offset room
   outcome (Open metadata frame room) s = opening cipher s metadata frame room
 
   unfoldable pub step : Call → History → History

@@ -20,13 +20,12 @@ use header::Reading;
 use header::Written;
 use key_record::Role;
 
-#[no_mangle]
-pub extern "C" fn sframe_write_header(kid: u64, ctr: u64, out: &mut [u8], length: &mut usize) -> u32
-    ensures { λ r. ⌜ r ≡ writtenNumber (writeHeader kid ctr (now (out .entry)) .answer) ⌝ }
-    ensures { λ r. ⌜ now (length .exit) ≡ writtenLength (writeHeader kid ctr (now (out .entry)) .answer) ⌝ }
-    ensures { λ r. ⌜ now (out .exit) ≡ writeHeader kid ctr (now (out .entry)) .room ⌝ }
+// Hands over what writing a header answers.
+fn hand_over(written: Written, length: &mut usize) -> u32
+    ensures { λ r. ⌜ r ≡ writtenNumber written ⌝ }
+    ensures { λ r. ⌜ now (length .exit) ≡ writtenLength written ⌝ }
 {
-    match header::write_header(Kid(kid), Ctr(ctr), out) {
+    match written {
         Written::Length(n) => {
             *length = n;
             DONE
@@ -36,6 +35,32 @@ pub extern "C" fn sframe_write_header(kid: u64, ctr: u64, out: &mut [u8], length
             ROOM_SHORT
         }
     }
+}
+
+#[no_mangle]
+pub extern "C" fn sframe_write_header(kid: u64, ctr: u64, out: &mut [u8], length: &mut usize) -> u32
+    ensures { λ r. ⌜ r ≡ writtenNumber (writeHeader kid ctr 0 (now (out .entry)) .answer) ⌝ }
+    ensures { λ r. ⌜ now (length .exit) ≡ writtenLength (writeHeader kid ctr 0 (now (out .entry)) .answer) ⌝ }
+    ensures { λ r. ⌜ now (out .exit) ≡ writeHeader kid ctr 0 (now (out .entry)) .room ⌝ }
+{
+    let written = header::write_header(Kid(kid), Ctr(ctr), out);
+    hand_over(written, length)
+}
+
+#[no_mangle]
+pub extern "C" fn sframe_write_header_at(
+    kid: u64,
+    ctr: u64,
+    out: &mut [u8],
+    offset: usize,
+    length: &mut usize,
+) -> u32
+    ensures { λ r. ⌜ r ≡ writtenNumber (writeHeader kid ctr offset (now (out .entry)) .answer) ⌝ }
+    ensures { λ r. ⌜ now (length .exit) ≡ writtenLength (writeHeader kid ctr offset (now (out .entry)) .answer) ⌝ }
+    ensures { λ r. ⌜ now (out .exit) ≡ writeHeader kid ctr offset (now (out .entry)) .room ⌝ }
+{
+    let written = header::write_header_at(Kid(kid), Ctr(ctr), out, offset);
+    hand_over(written, length)
 }
 
 #[no_mangle]
@@ -107,12 +132,32 @@ pub extern "C" fn sframe_seal(
     out: &mut [u8],
     length: &mut usize,
 ) -> u32
-    ensures { λ r. ⌜ r ≡ seal sframe (now (store .entry)) kid (now (metadata .entry)) (now (plaintext .entry)) (now (out .entry)) .number ⌝ }
-    ensures { λ r. ⌜ now (length .exit) ≡ seal sframe (now (store .entry)) kid (now (metadata .entry)) (now (plaintext .entry)) (now (out .entry)) .written ⌝ }
-    ensures { λ r. ⌜ now (store .exit) ≡ seal sframe (now (store .entry)) kid (now (metadata .entry)) (now (plaintext .entry)) (now (out .entry)) .store ⌝ }
-    ensures { λ r. ⌜ now (out .exit) ≡ seal sframe (now (store .entry)) kid (now (metadata .entry)) (now (plaintext .entry)) (now (out .entry)) .room ⌝ }
+    ensures { λ r. ⌜ r ≡ seal sframe (now (store .entry)) kid (now (metadata .entry)) (now (plaintext .entry)) 0 (now (out .entry)) .number ⌝ }
+    ensures { λ r. ⌜ now (length .exit) ≡ seal sframe (now (store .entry)) kid (now (metadata .entry)) (now (plaintext .entry)) 0 (now (out .entry)) .written ⌝ }
+    ensures { λ r. ⌜ now (store .exit) ≡ seal sframe (now (store .entry)) kid (now (metadata .entry)) (now (plaintext .entry)) 0 (now (out .entry)) .store ⌝ }
+    ensures { λ r. ⌜ now (out .exit) ≡ seal sframe (now (store .entry)) kid (now (metadata .entry)) (now (plaintext .entry)) 0 (now (out .entry)) .room ⌝ }
 {
     let answer = seal_frame::seal(store, Kid(kid), metadata, plaintext, out);
+    *length = answer.length;
+    answer.number
+}
+
+#[no_mangle]
+pub extern "C" fn sframe_seal_at(
+    store: &mut [u8],
+    kid: u64,
+    metadata: &[u8],
+    plaintext: &[u8],
+    out: &mut [u8],
+    offset: usize,
+    length: &mut usize,
+) -> u32
+    ensures { λ r. ⌜ r ≡ seal sframe (now (store .entry)) kid (now (metadata .entry)) (now (plaintext .entry)) offset (now (out .entry)) .number ⌝ }
+    ensures { λ r. ⌜ now (length .exit) ≡ seal sframe (now (store .entry)) kid (now (metadata .entry)) (now (plaintext .entry)) offset (now (out .entry)) .written ⌝ }
+    ensures { λ r. ⌜ now (store .exit) ≡ seal sframe (now (store .entry)) kid (now (metadata .entry)) (now (plaintext .entry)) offset (now (out .entry)) .store ⌝ }
+    ensures { λ r. ⌜ now (out .exit) ≡ seal sframe (now (store .entry)) kid (now (metadata .entry)) (now (plaintext .entry)) offset (now (out .entry)) .room ⌝ }
+{
+    let answer = seal_frame::seal_at(store, Kid(kid), metadata, plaintext, out, offset);
     *length = answer.length;
     answer.number
 }

@@ -7,6 +7,8 @@
 //! +-+-+-+-+-+-+-+-+------------+------------+
 //! ```
 
+use crate::refusal::{Answer, Refusal};
+
 /// The longest header: the config byte and two numbers of eight bytes.
 pub const MAX_LENGTH: usize = 17;
 
@@ -20,6 +22,21 @@ pub fn write_header(kid: u64, ctr: u64) -> Vec<u8> {
     let y_c = write_number(ctr, &mut header);
     header[0] = x_k << 4 | y_c;
     header
+}
+
+/// Writes the header of `kid` and `ctr` at `offset` in `room`. Refusals: 12.
+pub fn write_header_at(kid: u64, ctr: u64, room: &mut [u8], offset: usize) -> Answer {
+    let header = write_header(kid, ctr);
+    part(room, offset, header.len())?.copy_from_slice(&header);
+    Ok(header.len())
+}
+
+/// The `length` bytes of `room` from `offset` on. The room is short where it has
+/// fewer, and where the offset lies beyond its end.
+pub(crate) fn part(room: &mut [u8], offset: usize, length: usize) -> Result<&mut [u8], Refusal> {
+    room.get_mut(offset..)
+        .and_then(|rest| rest.get_mut(..length))
+        .ok_or(Refusal::RoomShort)
 }
 
 /// The KID, the CTR and the length of the header that `bytes` begin with.

@@ -4,7 +4,7 @@
 //! names them. A refusal changes no lent byte.
 
 use crate::aead::Aead;
-use crate::header::{read_header, write_header};
+use crate::header::{part, read_header, write_header};
 use crate::record::{Record, State, MAX_COUNTER, RECORD};
 use crate::refusal::{Answer, Refusal};
 use crate::suites::{nonce, Suite};
@@ -102,6 +102,18 @@ pub fn seal(
     plaintext: &[u8],
     room: &mut [u8],
 ) -> Answer {
+    seal_at(store, kid, metadata, plaintext, room, 0)
+}
+
+/// Seals `plaintext` at `offset` in `room`. Refusals: 1, 6, 7, 8, 9, 12.
+pub fn seal_at(
+    store: &mut [u8],
+    kid: u64,
+    metadata: &[u8],
+    plaintext: &[u8],
+    room: &mut [u8],
+    offset: usize,
+) -> Answer {
     let records = read_store(store)?;
     let (place, record) = look_up(&records, kid)?;
     if record.state != State::Sending {
@@ -114,7 +126,7 @@ pub fn seal(
     let header = write_header(kid, record.counter);
     let tag_at = header.len() + plaintext.len();
     let length = tag_at + record.suite.nt();
-    let frame = room.get_mut(..length).ok_or(Refusal::RoomShort)?;
+    let frame = part(room, offset, length)?;
 
     frame[..header.len()].copy_from_slice(&header);
     let data = &mut frame[header.len()..tag_at];

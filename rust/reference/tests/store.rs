@@ -235,6 +235,35 @@ fn base_keys_of_16_to_64_bytes() {
     }
 }
 
+/// What the room holds besides the frame stays. The room is short where it ends
+/// within the frame, and where the offset lies beyond its end.
+#[test]
+fn frames_at_an_offset() {
+    let store = filled(SUITES[0]);
+    let frame = seal_to_vec(&mut store.clone(), 1, b"", b"picture");
+    let end = |offset: usize| offset + frame.len();
+    for offset in [0, 1, 17] {
+        let before: Vec<u8> = (0..end(offset) as u8 + 3).collect();
+        let mut room = before.clone();
+        let answer = seal_at(&mut store.clone(), 1, b"", b"picture", &mut room, offset);
+        assert_eq!(answer, Ok(frame.len()));
+        let expected = [&before[..offset], &frame, &before[end(offset)..]].concat();
+        assert_eq!(room, expected);
+    }
+    for (offset, room) in [
+        (0, end(0) - 1),
+        (1, end(1) - 1),
+        (17, end(17) - 1),
+        (5, 5),
+        (6, 5),
+    ] {
+        let call = |s: &mut [u8], room: &mut [u8]| seal_at(s, 1, b"", b"picture", room, offset);
+        refused(&store, RoomShort, call, room);
+    }
+    let last = |s: &mut [u8], room: &mut [u8]| seal_at(s, 1, b"", b"", room, usize::MAX);
+    refused(&store, RoomShort, last, 100);
+}
+
 #[test]
 fn one_suite_is_for_receiving_alone() {
     for suite in SUITES {

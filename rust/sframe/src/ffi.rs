@@ -41,6 +41,21 @@ extern "C" {
         length: *mut usize,
     ) -> u32;
 
+    /// Seals `plaintext` into a frame at `offset` in `out`.
+    pub fn sframe_seal_at(
+        store: *mut u8,
+        store_len: usize,
+        kid: u64,
+        metadata: *const u8,
+        metadata_len: usize,
+        plaintext: *const u8,
+        plaintext_len: usize,
+        out: *mut u8,
+        out_len: usize,
+        offset: usize,
+        length: *mut usize,
+    ) -> u32;
+
     /// Opens `frame` to its plaintext at the front of `out`.
     pub fn sframe_open(
         store: *const u8,
@@ -60,6 +75,16 @@ extern "C" {
         ctr: u64,
         out: *mut u8,
         out_len: usize,
+        length: *mut usize,
+    ) -> u32;
+
+    /// Writes a header at `offset` in `out`.
+    pub fn sframe_write_header_at(
+        kid: u64,
+        ctr: u64,
+        out: *mut u8,
+        out_len: usize,
+        offset: usize,
         length: *mut usize,
     ) -> u32;
 

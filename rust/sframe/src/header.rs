@@ -54,6 +54,32 @@ pub fn write_header(kid: Kid, ctr: Ctr, out: &mut [u8]) -> Result<usize, Refusal
     Refusal::check(written.number, written.length)
 }
 
+/// Writes the header at `offset` in `out`, as [`write_header`] does at the front,
+/// and answers the header's length. The bytes before it stay as they are too.
+///
+/// Refuses with [`Refusal::RoomShort`] where `out` is shorter than the offset and
+/// the header together.
+///
+/// ```
+/// use sframe::{write_header_at, Ctr, Kid, Refusal};
+///
+/// let mut out = [0xee; 6];
+/// assert_eq!(write_header_at(Kid(1), Ctr(0x100), &mut out, 2), Ok(3));
+/// assert_eq!(out, [0xee, 0xee, 0x19, 0x01, 0x00, 0xee]);
+///
+/// let past = write_header_at(Kid(1), Ctr(0), &mut out, usize::MAX);
+/// assert_eq!(past, Err(Refusal::RoomShort));
+/// ```
+pub fn write_header_at(
+    kid: Kid,
+    ctr: Ctr,
+    out: &mut [u8],
+    offset: usize,
+) -> Result<usize, Refusal> {
+    let written = raw::write_header_at(kid.0, ctr.0, out, offset);
+    Refusal::check(written.number, written.length)
+}
+
 /// Reads the header that `bytes` begin with, whatever follows it.
 ///
 /// A number may stand in more bytes than it needs; [`write_header`] takes the

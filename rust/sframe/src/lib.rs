@@ -38,7 +38,7 @@ mod store;
 mod suite;
 mod view;
 
-pub use header::{read_header, write_header, Ctr, Header, Kid, MAX_HEADER};
+pub use header::{read_header, write_header, write_header_at, Ctr, Header, Kid, MAX_HEADER};
 pub use limits::{
     frame_room, MAX_BASE_KEY, MAX_COUNTER, MAX_METADATA, MAX_PLAINTEXT, MAX_RATCHET_BITS,
     MAX_RECORDS, MAX_STEPS, MIN_BASE_KEY, RECORD,

@@ -9,9 +9,9 @@ mod header;
 mod ratchet;
 mod store;
 
-pub use header::{read_header, write_header, Read};
+pub use header::{read_header, write_header, write_header_at, Read};
 pub use ratchet::{ratchet, ratchet_kid, RatchetKid};
-pub use store::{add_receiving, add_sending, make, open, remove, seal};
+pub use store::{add_receiving, add_sending, make, open, remove, seal, seal_at};
 
 /// A value to start an answer from that no call leaves in place by chance.
 const UNSET: u64 = 0xa5a5_a5a5_a5a5_a5a5;
@@ -21,6 +21,6 @@ const UNSET: u64 = 0xa5a5_a5a5_a5a5_a5a5;
 pub struct Written {
     /// 0, or the refusal's number.
     pub number: u32,
-    /// How many bytes were written at the front of the room, 0 when refused.
+    /// How many bytes were written to the room, 0 when refused.
     pub length: usize,
 }

@@ -199,6 +199,41 @@ impl<'a> Store<'a> {
         Refusal::check(written.number, written.length)
     }
 
+    /// Seals as [`seal`](Self::seal) does, into a frame at `offset` in `room`, and
+    /// answers the frame's length, without the offset. The bytes before the frame
+    /// stay as they are too, so that they can be the caller's own.
+    ///
+    /// [`RoomShort`](Refusal::RoomShort) where the room is shorter than the offset
+    /// and the frame together, be the offset past its end.
+    ///
+    /// ```
+    /// use sframe::{Kid, Metadata, Refusal, Role, Store, Suite};
+    ///
+    /// let mut bytes = [0; 80];
+    /// let mut store = Store::make(&mut bytes)?;
+    /// store.add(Role::Sending, Suite::Aes128GcmSha256_128, Kid(1), &[7; 16])?;
+    ///
+    /// let mut packet = *b"radio: .................";
+    /// let length = store.seal_at(Kid(1), Metadata::NONE, b"", &mut packet, 7)?;
+    /// assert_eq!((&packet[..7], packet[7]), (&b"radio: "[..], 0x10));
+    /// assert_eq!(7 + length, packet.len());
+    ///
+    /// let past = store.seal_at(Kid(1), Metadata::NONE, b"", &mut packet, 25);
+    /// assert_eq!(past, Err(Refusal::RoomShort));
+    /// # Ok::<(), Refusal>(())
+    /// ```
+    pub fn seal_at(
+        &mut self,
+        kid: Kid,
+        metadata: Metadata,
+        plaintext: &[u8],
+        room: &mut [u8],
+        offset: usize,
+    ) -> Result<usize, Refusal> {
+        let written = raw::seal_at(self.0, kid.0, metadata.0, plaintext, room, offset);
+        Refusal::check(written.number, written.length)
+    }
+
     /// Seals `plaintext` into a frame of its own. Refuses as [`seal`](Self::seal)
     /// does, except that the room suffices.
     ///

@@ -26,6 +26,7 @@ pub enum Call<'a> {
         kid: u64,
         metadata: &'a [u8],
         plaintext: &'a [u8],
+        offset: usize,
         room: usize,
     },
     Open {
@@ -42,6 +43,8 @@ pub struct Outcome {
     pub number: u32,
     /// The length of the result.
     pub length: usize,
+    /// Where in the room the result stands.
+    pub offset: usize,
     /// The store afterwards.
     pub store: Vec<u8>,
     /// The room afterwards.
@@ -49,18 +52,25 @@ pub struct Outcome {
 }
 
 impl Outcome {
-    /// The result at the front of the room.
+    /// The result at its place in the room; nothing where the call is refused.
     pub fn result(&self) -> &[u8] {
-        &self.room[..self.length]
+        match self.number {
+            DONE => &self.room[self.offset..][..self.length],
+            _ => &[],
+        }
     }
 }
 
 /// Makes `call` on a copy of `store` on both sides, and checks that number,
 /// length, store and room are the same, that a refusal left everything as it
-/// was, and that nothing behind a result was written.
+/// was, and that nothing before or behind a result was written. Sealing at
+/// offset 0 is made by both of its calls.
 #[track_caller]
 pub fn compare(store: &[u8], call: Call) -> Outcome {
     let ours = on_layer(store, call);
+    if matches!(call, Call::Seal { offset: 0, .. }) {
+        assert!(ours == at_front(store, call), "{call}: both ways to seal");
+    }
     let theirs = on_reference(store, call);
     assert_eq!(
         (ours.number, ours.length),
@@ -70,10 +80,12 @@ pub fn compare(store: &[u8], call: Call) -> Outcome {
     check_same("store", &ours.store, &theirs.store, call);
     check_same("room", &ours.room, &theirs.room, call);
 
-    let rest = &ours.room[ours.length..];
+    let around = ours.room.len() - ours.result().len();
+    let (front, rest) = ours.room.split_at(ours.offset.min(around));
+    let behind = &rest[ours.result().len()..];
     assert!(
-        rest.iter().all(|&byte| byte == PATTERN),
-        "{call}: wrote behind its result"
+        front.iter().chain(behind).all(|&byte| byte == PATTERN),
+        "{call}: wrote beside its result"
     );
     if ours.number != DONE || matches!(call, Call::Open { .. }) {
         check_same("store before and after", &ours.store, store, call);
@@ -116,8 +128,9 @@ fn on_layer(store: &[u8], call: Call) -> Outcome {
             kid,
             metadata,
             plaintext,
+            offset,
             ..
-        } => raw::seal(store.lend(), kid, metadata, plaintext, room.lend()),
+        } => raw::seal_at(store.lend(), kid, metadata, plaintext, room.lend(), offset),
         Call::Open {
             frame, metadata, ..
         } => raw::open(store.bytes(), frame, metadata, room.lend()),
@@ -125,13 +138,38 @@ fn on_layer(store: &[u8], call: Call) -> Outcome {
     Outcome {
         number,
         length,
+        offset: call.offset(),
+        store: store.take_back(),
+        room: room.take_back(),
+    }
+}
+
+/// Sealing by the call that takes no offset.
+#[track_caller]
+fn at_front(store: &[u8], call: Call) -> Outcome {
+    let Call::Seal {
+        kid,
+        metadata,
+        plaintext,
+        ..
+    } = call
+    else {
+        unreachable!("{call} does not seal")
+    };
+    let mut store = Lent::copy(store);
+    let mut room = Lent::room(call.room());
+    let Written { number, length } = raw::seal(store.lend(), kid, metadata, plaintext, room.lend());
+    Outcome {
+        number,
+        length,
+        offset: 0,
         store: store.take_back(),
         room: room.take_back(),
     }
 }
 
 fn on_reference(store: &[u8], call: Call) -> Outcome {
-    use reference::store::{add, make, open, remove, seal, Role as ReferenceRole};
+    use reference::store::{add, make, open, remove, seal_at, Role as ReferenceRole};
     let mut store = store.to_vec();
     let mut room = vec![PATTERN; call.room()];
     let answer = match call {
@@ -153,8 +191,9 @@ fn on_reference(store: &[u8], call: Call) -> Outcome {
             kid,
             metadata,
             plaintext,
+            offset,
             ..
-        } => seal(&mut store, kid, metadata, plaintext, &mut room),
+        } => seal_at(&mut store, kid, metadata, plaintext, &mut room, offset),
         Call::Open {
             frame, metadata, ..
         } => open(&store, metadata, frame, &mut room),
@@ -163,6 +202,7 @@ fn on_reference(store: &[u8], call: Call) -> Outcome {
     Outcome {
         number,
         length,
+        offset: call.offset(),
         store,
         room,
     }
@@ -174,6 +214,14 @@ impl Call<'_> {
         match *self {
             Call::Seal { room, .. } | Call::Open { room, .. } => room,
             Call::Make | Call::Add { .. } | Call::Remove { .. } => 0,
+        }
+    }
+
+    /// Where the result is to stand in the room.
+    fn offset(&self) -> usize {
+        match *self {
+            Call::Seal { offset, .. } => offset,
+            _ => 0,
         }
     }
 }
@@ -198,10 +246,11 @@ impl fmt::Display for Call<'_> {
                 kid,
                 metadata,
                 plaintext,
+                offset,
                 room,
             } => write!(
                 f,
-                "Seal, KID {kid:#x}, metadata of {} bytes, plaintext of {}, room of {room}",
+                "Seal, KID {kid:#x}, metadata of {} bytes, plaintext of {}, at {offset} of {room}",
                 metadata.len(),
                 plaintext.len()
             ),

@@ -1,36 +1,35 @@
 //! The header calls on both sides.
 
-use crate::number::{BAD_HEADER, DONE, ROOM_SHORT};
+use crate::number::{BAD_HEADER, DONE};
 use reference::header;
+use reference::refusal::number_and_length;
 use sframe::raw::{self, Read, Written};
 use testkit::PATTERN;
 
-/// Writes a header into a room of `room` bytes on both sides.
+/// Writes a header into a room of `room` bytes on both sides, by both calls.
 #[track_caller]
 pub fn compare_write_header(kid: u64, ctr: u64, room: usize) -> Written {
-    let header = header::write_header(kid, ctr);
+    let written = compare_write_header_at(kid, ctr, 0, room);
+    let mut out = vec![PATTERN; room];
+    assert_eq!(raw::write_header(kid, ctr, &mut out), written);
+    let mut out_at = vec![PATTERN; room];
+    raw::write_header_at(kid, ctr, &mut out_at, 0);
+    assert_eq!(out, out_at);
+    written
+}
+
+/// The same at an offset in the room.
+#[track_caller]
+pub fn compare_write_header_at(kid: u64, ctr: u64, offset: usize, room: usize) -> Written {
     let mut expected_room = vec![PATTERN; room];
-    let expected = match expected_room.get_mut(..header.len()) {
-        Some(front) => {
-            front.copy_from_slice(&header);
-            Written {
-                number: DONE,
-                length: header.len(),
-            }
-        }
-        None => Written {
-            number: ROOM_SHORT,
-            length: 0,
-        },
-    };
+    let answer = header::write_header_at(kid, ctr, &mut expected_room, offset);
+    let (number, length) = number_and_length(answer);
 
     let mut out = vec![PATTERN; room];
-    let written = raw::write_header(kid, ctr, &mut out);
-    assert_eq!(written, expected, "KID {kid:#x}, CTR {ctr:#x}, room {room}");
-    assert_eq!(
-        out, expected_room,
-        "KID {kid:#x}, CTR {ctr:#x}, room {room}"
-    );
+    let written = raw::write_header_at(kid, ctr, &mut out, offset);
+    let case = || format!("KID {kid:#x}, CTR {ctr:#x}, at {offset} of {room}");
+    assert_eq!(written, Written { number, length }, "{}", case());
+    assert_eq!(out, expected_room, "{}", case());
     written
 }
 

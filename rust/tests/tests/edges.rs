@@ -24,6 +24,7 @@ fn seal<'a>(metadata: &'a [u8], plaintext: &'a [u8]) -> Call<'a> {
         kid: KID,
         metadata,
         plaintext,
+        offset: 0,
         room: plaintext.len() + 64,
     }
 }
@@ -151,6 +152,7 @@ fn rooms_of_every_length() {
                     kid: KID,
                     metadata: b"",
                     plaintext,
+                    offset: 0,
                     room,
                 };
                 let outcome = compare(&sender, sealing);
@@ -201,6 +203,7 @@ fn the_64th_key_fits_and_the_65th_does_not() {
                     kid,
                     metadata: b"",
                     plaintext: b"picture",
+                    offset: 0,
                     room: 64,
                 };
                 done(&store, sealing);
@@ -330,6 +333,7 @@ fn key_numbers_with_their_top_bit_set() {
                 kid,
                 metadata: b"",
                 plaintext: b"picture",
+                offset: 0,
                 room: 64,
             };
             let sealed = done(&sender(&key), sealing);

@@ -219,6 +219,7 @@ fn every_short_length() {
                 kid: key.kid,
                 metadata: &metadata,
                 plaintext: &plaintext,
+                offset: 0,
                 room: length + 40,
             };
             let sealed = done(&sender, sealing);

@@ -18,6 +18,12 @@ fn headers() {
     // SAFETY: as above.
     let number = unsafe { sframe_write_header(0, 0, null_mut(), 0, &mut length) };
     assert_eq!((number, length), (ROOM_SHORT, 0));
+    for offset in [0, 1, usize::MAX] {
+        length = 1;
+        // SAFETY: as above.
+        let number = unsafe { sframe_write_header_at(0, 0, null_mut(), 0, offset, &mut length) };
+        assert_eq!((number, length), (ROOM_SHORT, 0));
+    }
 }
 
 #[test]
@@ -70,6 +76,23 @@ fn metadata_plaintext_and_room() {
                 &mut length,
             );
             assert_eq!((refused, length), (ROOM_SHORT, 0));
+            for offset in [0, 1, usize::MAX] {
+                length = 1;
+                let refused = sframe_seal_at(
+                    store,
+                    bytes,
+                    1,
+                    null(),
+                    0,
+                    null(),
+                    0,
+                    null_mut(),
+                    0,
+                    offset,
+                    &mut length,
+                );
+                assert_eq!((refused, length), (ROOM_SHORT, 0));
+            }
             sframe_seal(store, bytes, 1, null(), 0, null(), 0, out, 32, &mut length)
         };
         assert_eq!(number, DONE);

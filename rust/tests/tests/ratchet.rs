@@ -211,6 +211,7 @@ fn seal(kid: u64) -> Call<'static> {
         kid,
         metadata: b"",
         plaintext: b"picture",
+        offset: 0,
         room: 64,
     }
 }

@@ -41,6 +41,7 @@ fn calls<'a>(opened: &'a [u8]) -> [Call<'a>; 6] {
             kid: KIDS[0],
             metadata: b"m",
             plaintext: b"picture",
+            offset: 0,
             room: 64,
         },
         Call::Open {

@@ -29,6 +29,7 @@ fn published_frames() {
                 kid,
                 metadata: b"",
                 plaintext: b"",
+                offset: 0,
                 room: 32,
             };
             store = done(&store, unused).store;
@@ -37,6 +38,7 @@ fn published_frames() {
             kid,
             metadata: &metadata,
             plaintext: &plaintext,
+            offset: 0,
             room: 64,
         };
         let sealed = done(&store, sealing);

@@ -1,36 +1,21 @@
-use mathlib.Core.Path.{sym, _∙_}
+use mathlib.Core.Path.{_∙_, ap}
 use borrow.Author.Needs.{needs}
+use Rattle.header.specs.Answers.{writtenNumber, writtenLength}
 use Rattle.sframe_c.proofs.sframe_write_header.Statement.{statement}
 use Rattle.sframe_c.proofs.sframe_write_header.Tie as tie
 
 -- ---- points of the program, each reached from a later one
 
-abbrev to-write-header-from-known-told : tie.After-known-told → tie.After-write-header
-to-write-header-from-known-told c = c .before .before .before .before .before
-
-abbrev to-write-header-from-enum-told : tie.After-enum-told → tie.After-write-header
-to-write-header-from-enum-told c = c .before .before .before .before
+abbrev to-write-header : tie.After-hand-over → tie.After-write-header
+to-write-header c = c .before .before .before .before
 
 -- ----
 
 returns : tie.Need-returns
 returns c =
-    let at-write-header = to-write-header-from-known-told c in
-    let e = sym (at-write-header .write-header .ensures .0) ∙ c .before .n .given .1 in (rw e, (rw e, at-write-header .write-header .ensures .1 .0))
-
-returns-2 : tie.Need-returns-2
-returns-2 c =
-    let at-write-header = to-write-header-from-enum-told c in
-    let e = sym (at-write-header .write-header .ensures .0) ∙ c .enum-told .given .1 in (rw e, (rw e, at-write-header .write-header .ensures .1 .0))
+    let e = to-write-header c .write-header .ensures in
+    let h = c .hand-over .ensures in
+    (h .0 ∙ ap writtenNumber (e .0), (h .1 ∙ ap writtenLength (e .0), e .1 .0))
 
 pub sframe-write-header-spec : {M : Type 1} → statement M
-sframe-write-header-spec =
-    tie.close
-    (tie.spec
-    (λ c κs. search needs)
-    (λ c. search needs)
-    (λ c. search needs)
-    (λ c. search needs)
-    returns
-    (λ c. search needs)
-    returns-2)
+sframe-write-header-spec = tie.close (tie.spec (λ c κs. search needs) (λ c κs. search needs) (λ c. search needs) returns)

@@ -1,4 +1,4 @@
-//! The two header calls.
+//! The header calls.
 
 use super::{Written, UNSET};
 use crate::ffi;
@@ -10,6 +10,15 @@ pub fn write_header(kid: u64, ctr: u64, out: &mut [u8]) -> Written {
     // and `length` is a local of its own.
     let number =
         unsafe { ffi::sframe_write_header(kid, ctr, out.as_mut_ptr(), out.len(), &mut length) };
+    Written { number, length }
+}
+
+/// Writes the header of `kid` and `ctr` at `offset` in `out`.
+pub fn write_header_at(kid: u64, ctr: u64, out: &mut [u8], offset: usize) -> Written {
+    let mut length = UNSET as usize;
+    let (bytes, room) = (out.as_mut_ptr(), out.len());
+    // SAFETY: as in `write_header`.
+    let number = unsafe { ffi::sframe_write_header_at(kid, ctr, bytes, room, offset, &mut length) };
     Written { number, length }
 }
 

@@ -1,4 +1,4 @@
-//! The six calls on a store.
+//! The calls on a store.
 
 use super::{Written, UNSET};
 use crate::ffi;
@@ -68,6 +68,35 @@ pub fn seal(
             plaintext.len(),
             out.as_mut_ptr(),
             out.len(),
+            &mut length,
+        )
+    };
+    Written { number, length }
+}
+
+/// Seals `plaintext` into a frame at `offset` in `out`.
+pub fn seal_at(
+    store: &mut [u8],
+    kid: u64,
+    metadata: &[u8],
+    plaintext: &[u8],
+    out: &mut [u8],
+    offset: usize,
+) -> Written {
+    let mut length = UNSET as usize;
+    // SAFETY: as in `seal`.
+    let number = unsafe {
+        ffi::sframe_seal_at(
+            store.as_mut_ptr(),
+            store.len(),
+            kid,
+            metadata.as_ptr(),
+            metadata.len(),
+            plaintext.as_ptr(),
+            plaintext.len(),
+            out.as_mut_ptr(),
+            out.len(),
+            offset,
             &mut length,
         )
     };

@@ -36,6 +36,35 @@ fn streams_and_hex() {
     assert_eq!(text, b"key number 200, counter 0, header of 3 bytes\n");
 }
 
+/// Zero bytes stand before the result. An offset that the tool has no room for is
+/// refused, and uses up no counter.
+#[test]
+fn results_at_an_offset() {
+    let folder = Folder::with_stores("offset", 4);
+    folder.write("picture", b"a picture");
+    let seal = |offset: &str| format!("seal ward --kid 200 --in picture --offset {offset}");
+    for offset in ["65537", "18446744073709551615"] {
+        folder.fails(&seal(offset), 12);
+        folder.fails(&format!("header --kid 1 --ctr 1 --offset {offset}"), 12);
+    }
+    let widest = folder.done(&seal("65536"));
+    assert_eq!(widest.len(), 65_536 + 2 + 9 + 16);
+
+    for offset in [0, 1, 17] {
+        folder.done(&(seal(&offset.to_string()) + " --out packet"));
+        let packet = folder.read("packet");
+        let (front, frame) = packet.split_at(offset);
+        assert_eq!(front, vec![0; offset]);
+        assert_eq!(frame.len(), 2 + 9 + 16);
+        folder.write("frame", frame);
+        assert_eq!(folder.done("open doctor --in frame"), b"a picture");
+    }
+    let hex = folder.done(&(seal("2") + " --hex"));
+    assert!(hex.starts_with(b"000084c8"));
+    let header = folder.done("header --kid 200 --ctr 0 --offset 2");
+    assert_eq!(header, b"000080c8\n");
+}
+
 /// Raw or in hex, from a file or from standard input, it is the same key.
 #[test]
 fn ways_to_give_a_key() {

@@ -24,6 +24,7 @@ pub enum Given {
         kid: u64,
         metadata: Vec<u8>,
         plaintext: Vec<u8>,
+        offset: usize,
         room: usize,
     },
     Open {
@@ -52,11 +53,13 @@ impl Given {
                 kid,
                 metadata,
                 plaintext,
+                offset,
                 room,
             } => Call::Seal {
                 kid: *kid,
                 metadata,
                 plaintext,
+                offset: *offset,
                 room: *room,
             },
             Given::Open {
@@ -107,10 +110,22 @@ impl Given {
             4 => generator.up_to(length),
             _ => length + 33,
         };
+        // Most offsets come on top of the room; some are taken from it, or lie
+        // past its end.
+        let (offset, room) = match generator.up_to(19) {
+            0 => (generator.up_to(room + 2), room),
+            1 => (generator.any_width() as usize, room),
+            2..12 => {
+                let offset = generator.up_to(40);
+                (offset, offset + room)
+            }
+            _ => (0, room),
+        };
         Given::Seal {
             kid,
             metadata: generator.bytes(metadata),
             plaintext: generator.bytes(length),
+            offset,
             room,
         }
     }

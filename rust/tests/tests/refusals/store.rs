@@ -102,16 +102,19 @@ fn seal() {
         if unsound {
             make_unsound(&mut store);
         }
-        for [plaintext, metadata, room] in combinations([3, 2, 3]) {
+        for [plaintext, metadata, room, offset] in combinations([3, 2, 3, 3]) {
             let plaintext = [&long[..0], &long[..9], &long][plaintext];
             let metadata = [&long[..4], &long[..MAX_METADATA + 1]][metadata];
             // The header of a first frame under this key number has two bytes.
             let enough = 2 + plaintext.len() + suite.nt();
-            let room = [enough, enough - 1, 0][room];
+            let offset = [0, 17, usize::MAX][offset];
+            let end = enough.saturating_add(offset);
+            let room = [enough + offset.min(17), end.min(100_000) - 1, 0][room];
             let call = Call::Seal {
                 kid: KID,
                 metadata,
                 plaintext,
+                offset,
                 room,
             };
             let wrong = matches!(held, Held::Receiving | Held::Retired | Held::RetiredSpent);
@@ -125,7 +128,7 @@ fn seal() {
                     matches!(held, Held::Spent | Held::RetiredSpent),
                 ),
                 (TOO_LONG, too_long),
-                (ROOM_SHORT, room < enough),
+                (ROOM_SHORT, room < end),
             ];
             seen.check(&store, call, causes);
         }

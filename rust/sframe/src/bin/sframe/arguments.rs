@@ -32,6 +32,7 @@ pub enum Command {
     Seal {
         store: PathBuf,
         kid: Kid,
+        offset: u64,
         streams: Streams,
     },
     Open {
@@ -41,6 +42,7 @@ pub enum Command {
     WriteHeader {
         kid: Kid,
         ctr: Ctr,
+        offset: u64,
     },
     ReadHeader {
         frame: Place,
@@ -105,6 +107,7 @@ impl Command {
             "seal" => Command::Seal {
                 store: words.store()?,
                 kid: Kid(words.number("--kid")?),
+                offset: words.offset()?,
                 streams: words.streams()?,
             },
             "open" => Command::Open {
@@ -126,7 +129,7 @@ impl Command {
 }
 
 /// The options that take a value, and those that take none.
-const VALUES: [&str; 12] = [
+const VALUES: [&str; 13] = [
     "--keys",
     "--kid",
     "--suite",
@@ -139,6 +142,7 @@ const VALUES: [&str; 12] = [
     "--generation",
     "--step",
     "--bits",
+    "--offset",
 ];
 const FLAGS: [&str; 4] = ["--sending", "--receiving", "--hex", "--help"];
 
@@ -199,6 +203,16 @@ impl Words {
     /// A number of 64 bits, in decimal or in hex after 0x.
     fn number(&mut self, name: &str) -> Result<u64, Failure> {
         let value = self.required(name)?;
+        Self::read_number(name, &value)
+    }
+
+    /// Where the result stands in what is written; 0 unless it is given.
+    fn offset(&mut self) -> Result<u64, Failure> {
+        let value = self.value("--offset");
+        value.map_or(Ok(0), |value| Self::read_number("--offset", &value))
+    }
+
+    fn read_number(name: &str, value: &OsString) -> Result<u64, Failure> {
         let text = value.to_str().unwrap_or_default();
         let digits_only = |digits: &str| !digits.starts_with('+');
         match text.strip_prefix("0x") {
@@ -248,6 +262,7 @@ impl Words {
             None => Ok(Command::WriteHeader {
                 kid: Kid(self.number("--kid")?),
                 ctr: Ctr(self.number("--ctr")?),
+                offset: self.offset()?,
             }),
         }
     }

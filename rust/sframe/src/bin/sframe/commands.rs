@@ -8,7 +8,7 @@ use crate::hex;
 use crate::input::Place;
 use crate::store_file::StoreFile;
 use sframe::{
-    frame_room, ratchet_kid, raw, read_header, write_header, Ctr, Kid, Metadata, Refusal, Role,
+    frame_room, ratchet_kid, raw, read_header, write_header_at, Ctr, Kid, Metadata, Refusal, Role,
     Store, StoreView, Suite, MAX_BASE_KEY, MAX_HEADER, MAX_METADATA, MAX_PLAINTEXT, MAX_RECORDS,
     RECORD,
 };
@@ -17,6 +17,9 @@ use std::path::Path;
 
 /// The longest frame that can be opened; the suite is one with the longest tag.
 const MAX_FRAME: usize = frame_room(Suite::Aes128GcmSha256_128, MAX_PLAINTEXT);
+
+/// The largest offset of a result in what is written.
+const MAX_OFFSET: usize = 65_536;
 
 /// Runs a command. What it has to say goes to `out`.
 pub fn run(command: Command, disk: &mut impl Disk, out: &mut impl Write) -> Result<(), Failure> {
@@ -43,13 +46,14 @@ pub fn run(command: Command, disk: &mut impl Disk, out: &mut impl Write) -> Resu
         Command::Seal {
             store,
             kid,
+            offset,
             streams,
-        } => seal(disk, &store, kid, &streams, out),
+        } => seal(disk, &store, kid, offset, &streams, out),
         Command::Open { store, streams } => open(disk, &store, &streams, out),
-        Command::WriteHeader { kid, ctr } => {
-            let mut header = [0; MAX_HEADER];
-            let length = write_header(kid, ctr, &mut header)?;
-            print(out, &format!("{}\n", hex::encode(&header[..length])))
+        Command::WriteHeader { kid, ctr, offset } => {
+            let (mut room, offset) = room_at(offset, MAX_HEADER);
+            let length = write_header_at(kid, ctr, &mut room, offset)?;
+            print(out, &format!("{}\n", hex::encode(&room[..offset + length])))
         }
         Command::ReadHeader { frame, hex } => {
             let header = read_header(&read_frame(&frame, hex)?)?;
@@ -152,25 +156,37 @@ fn list(disk: &mut impl Disk, path: &Path, out: &mut impl Write) -> Result<(), F
     print(out, &text)
 }
 
+/// A room of zeros for a result of up to `longest` bytes at an offset, and the
+/// offset. One beyond [`MAX_OFFSET`] lies past the end of the room.
+fn room_at(offset: u64, longest: usize) -> (Vec<u8>, usize) {
+    match usize::try_from(offset) {
+        Ok(offset) if offset <= MAX_OFFSET => (vec![0; offset + longest], offset),
+        _ => (vec![0; MAX_OFFSET], usize::MAX),
+    }
+}
+
 /// The store with the new counter is on the disk before the frame leaves.
 fn seal(
     disk: &mut impl Disk,
     path: &Path,
     kid: Kid,
+    offset: u64,
     streams: &Streams,
     out: &mut impl Write,
 ) -> Result<(), Failure> {
     spare_store(path, &streams.output)?;
     let plaintext = streams.input.read(MAX_PLAINTEXT)?;
     let metadata = read_metadata(streams)?;
-    let frame = change(disk, path, |bytes| {
-        Store::over(bytes).seal_to_vec(kid, Metadata(&metadata), &plaintext)
+    let (mut room, offset) = room_at(offset, MAX_FRAME);
+    let length = change(disk, path, |bytes| {
+        Store::over(bytes).seal_at(kid, Metadata(&metadata), &plaintext, &mut room, offset)
     })?;
+    let written = &room[..offset + length];
     if streams.hex {
-        let text = format!("{}\n", hex::encode(&frame));
+        let text = format!("{}\n", hex::encode(written));
         return streams.output.write(text.as_bytes(), out);
     }
-    streams.output.write(&frame, out)
+    streams.output.write(written, out)
 }
 
 /// Opening changes nothing, so it needs no lock: the file is always whole.

@@ -24,15 +24,19 @@ Each frame that is sealed uses up one counter of its key.
   sframe list STORE
       Shows role, suite, number and next counter of each key; never the key.
 
-  sframe seal STORE --kid K [--in FILE] [--out FILE] [--metadata FILE] [--hex]
+  sframe seal STORE --kid K [--in FILE] [--out FILE] [--metadata FILE]
+              [--offset N] [--hex]
       Seals a plaintext into a frame; with --hex the frame is written in hex.
+      With --offset N zero bytes stand before it, up to 65536, for bytes of
+      your own.
 
   sframe open STORE [--in FILE] [--out FILE] [--metadata FILE] [--hex]
       Opens a frame; with --hex the frame is read in hex. Metadata must be what
       it was in sealing.
 
-  sframe header --kid K --ctr N
-      Writes the header of a key number and a counter, the shortest, in hex.
+  sframe header --kid K --ctr N [--offset N]
+      Writes the header of a key number and a counter, the shortest, in hex;
+      with --offset as in sealing.
 
   sframe header --in FILE [--hex]
       Reads the header that a frame starts with, be it longer than the shortest.
@@ -65,7 +69,7 @@ Exit status: 0 done; 1 to 13, 17, 20 and 21 refused, with these causes:
    2  no such suite                          metadata above 1024
    3  base key not of 16 to 64 bytes     10  header cut short
    4  key number already in the store    11  frame too short for a tag
-   5  no empty record left               12  room too short (not met here)
+   5  no empty record left               12  room too short: --offset too large
    6  key number not in the store        13  the tag does not match
    7  role does not allow it             20  not 1 to 16 bits of a step, or a
   17  suite 3 is not for sending             key number past 64 bits

@@ -50,7 +50,13 @@ fn standard_streams_unless_named() {
 
 #[test]
 fn numbers() {
-    let header = |kid, ctr| Ok(Command::WriteHeader { kid, ctr });
+    let header = |kid, ctr| {
+        Ok(Command::WriteHeader {
+            kid,
+            ctr,
+            offset: 0,
+        })
+    };
     assert_eq!(parse("header --kid 0 --ctr 7"), header(Kid(0), Ctr(7)));
     assert_eq!(
         parse("header --kid 18446744073709551615 --ctr 0xffffffffffffffff"),
@@ -70,6 +76,35 @@ fn numbers() {
             parse(&format!("header --ctr 0 --kid {kid}")).is_err(),
             "{kid}"
         );
+    }
+}
+
+#[test]
+fn offsets() {
+    for (line, expected) in [
+        ("seal ward --kid 1", 0),
+        ("seal ward --kid 1 --offset 17", 17),
+        ("seal --offset 0xffffffffffffffff ward --kid 1", u64::MAX),
+    ] {
+        let Ok(Command::Seal { offset, .. }) = parse(line) else {
+            panic!("not a seal");
+        };
+        assert_eq!(offset, expected);
+    }
+    let expected = Command::WriteHeader {
+        kid: Kid(1),
+        ctr: Ctr(2),
+        offset: 3,
+    };
+    assert_eq!(parse("header --kid 1 --ctr 2 --offset 3"), Ok(expected));
+    for line in [
+        "seal ward --kid 1 --offset",
+        "seal ward --kid 1 --offset -1",
+        "seal ward --kid 1 --offset 1 --offset 1",
+        "open ward --offset 1",
+        "header --in f --offset 1",
+    ] {
+        assert!(parse(line).is_err(), "{line}");
     }
 }
 

@@ -74,6 +74,7 @@ impl Setup {
         Command::Seal {
             store: self.store(),
             kid: KID,
+            offset: 0,
             streams: Streams {
                 input: Place::File(self.folder.join("picture")),
                 output: Place::Standard,
