@@ -51,7 +51,7 @@ enum sframe_answer {
     /* The record is not for this: sealing takes a sending one, opening a receiving one, and a retired
      * one is not removed again. */
     SFRAME_WRONG_ROLE = 7,
-    /* The key's next counter is 2^40: no counter is left. */
+    /* The key has sealed with its last counter, 2^64 - 1: none is left. */
     SFRAME_COUNTER_SPENT = 8,
     /* The plaintext exceeds SFRAME_MAX_PLAINTEXT, or the metadata SFRAME_MAX_METADATA. */
     SFRAME_TOO_LONG = 9,
@@ -147,7 +147,8 @@ uint32_t sframe_remove(uint8_t *store, size_t store_len, uint64_t kid);
  * frame.
  *
  * SFRAME_DONE: *length is the frame's length, the room beyond it stays as it was, and the record's
- * counter has gone up by one. SFRAME_FRAME_ROOM says how long a room always suffices.
+ * counter has gone up by one; where it was the last, 2^64 - 1, the record says that none is left.
+ * SFRAME_FRAME_ROOM says how long a room always suffices.
  * Else the first of SFRAME_STORE_NOT_SOUND, SFRAME_KID_UNKNOWN, SFRAME_WRONG_ROLE,
  * SFRAME_COUNTER_SPENT, SFRAME_TOO_LONG, SFRAME_ROOM_SHORT that holds: *length is 0, no counter is
  * used up, and store and room stay as they were.

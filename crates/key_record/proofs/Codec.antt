@@ -11,10 +11,11 @@ use lib.Seq.{drop-at, take-at, drop-drop}
 use borrow.Author.Tests.{leb-true, le-leb, ne-eqb, eqb-true, eqb-false}
 use Rattle.octets.specs.Octets.{Octets, number, bytes, same}
 use Rattle.octets.proofs.Laws.{bytes-length, bytes-octets, number-bytes, number-append, number-lt, octets-append, octets-take, octets-drop, octets-replicate, same-refl, same-eq}
-use Rattle.key_record.specs.Layout.{recordSize, keyRoom, sendingMark, receivingMark, retiredMark, row, encode, decode, fits, obeys, markAt, suiteAt, kidAt, counterAt, saltAt, keyAt}
+use Rattle.key_record.specs.Layout.{recordSize, keyRoom, sendingMark, receivingMark, retiredMark, spentByte, row, encode, counterIn, decode, fits, obeys, markAt, suiteAt, kidAt, counterAt, saltAt, keyAt}
 use Rattle.key_record.specs.Record.{ceiling, KeyRecord, empty, sending, receiving, retired}
 use Rattle.answers.proofs.Basics.{Two, yes′, no′, two, both-true, both-and}
 use Rattle.key_record.specs.Suites.{isSuite, keySize, saltSize}
+use Rattle.key_record.proofs.Spent.{spent-most, rest-below, rest-back}
 use Rattle.key_record.proofs.Suites.{suite-byte, key-size}
 
 -- ---- records in range
@@ -42,20 +43,21 @@ row-length : (mark suite kid counter : ℕ) (salt key : List ℕ) → length sal
 unfolding row
 row-length mark suite kid counter salt key e h = simp (length-append, bytes-length, length-replicate) (omega arith)
 
-octets-front : (mark suite : ℕ) (l : List ℕ) → mark < 256 → suite < 256 → Octets l → Octets ((mark ∷ suite ∷ 0 ∷ 0 ∷ []) ++ l)
-octets-front mark suite l a b o zero = a
-octets-front mark suite l a b o (suc zero) = b
-octets-front mark suite l a b o (suc (suc zero)) = omega arith
-octets-front mark suite l a b o (suc (suc (suc zero))) = omega arith
-octets-front mark suite l a b o (suc (suc (suc (suc i)))) = o i
+octets-front : (mark suite spent : ℕ) (l : List ℕ) → mark < 256 → suite < 256 → spent < 256 → Octets l → Octets ((mark ∷ suite ∷ spent ∷ 0 ∷ []) ++ l)
+octets-front mark suite spent l a b c o zero = a
+octets-front mark suite spent l a b c o (suc zero) = b
+octets-front mark suite spent l a b c o (suc (suc zero)) = c
+octets-front mark suite spent l a b c o (suc (suc (suc zero))) = omega arith
+octets-front mark suite spent l a b c o (suc (suc (suc (suc i)))) = o i
 
 row-octets : (mark suite kid counter : ℕ) (salt key : List ℕ) → mark < 256 → suite < 256 → Octets salt → Octets key → Octets (row mark suite kid counter salt key)
 unfolding row
 row-octets mark suite kid counter salt key a b p q =
     let padding : List ℕ = replicate (keyRoom - length key) 0 in
-    octets-front mark suite (bytes 8 kid ++ (bytes 8 counter ++ (salt ++ (key ++ padding)))) a b
-    (octets-append (bytes 8 kid) (bytes 8 counter ++ (salt ++ (key ++ padding))) (bytes-octets 8 kid)
-    (octets-append (bytes 8 counter) (salt ++ (key ++ padding)) (bytes-octets 8 counter)
+    let rest = bytes 8 (counter - spentByte counter) in
+    octets-front mark suite (spentByte counter) (bytes 8 kid ++ (rest ++ (salt ++ (key ++ padding)))) a b (omega (arith, spent-most counter))
+    (octets-append (bytes 8 kid) (rest ++ (salt ++ (key ++ padding))) (bytes-octets 8 kid)
+    (octets-append rest (salt ++ (key ++ padding)) (bytes-octets 8 (counter - spentByte counter))
     (octets-append salt (key ++ padding) p (octets-append key padding q (octets-replicate (keyRoom - length key) 0 (omega arith))))))
 
 row-mark : (mark suite kid counter : ℕ) (salt key : List ℕ) → getD (row mark suite kid counter salt key) markAt 0 ≡ mark
@@ -65,7 +67,7 @@ row-mark mark suite kid counter salt key = refl
 pub record RowRead (l : List ℕ) (suite kid counter : ℕ) (salt key : List ℕ) : Type 0 where
   pub suite-is : getD l suiteAt 0 ≡ suite
   pub kid-is : number 8 (drop kidAt l) ≡ kid
-  pub counter-is : number 8 (drop counterAt l) ≡ counter
+  pub counter-is : counterIn l ≡ counter
   pub salt-is : take saltSize (drop saltAt l) ≡ salt
   pub key-is : take (length key) (drop keyAt l) ≡ key
 
@@ -74,22 +76,23 @@ number-front v rest h =
     let b = bytes-length 8 v in
     number-append 8 (bytes 8 v) rest (omega arith) ∙ number-bytes 8 v ∙ mod-eq-of-lt h
 
-pub row-read : (mark suite kid counter : ℕ) (salt key : List ℕ) → kid < 2 ^ 64 → counter < 2 ^ 64 → length salt ≡ saltSize
+pub row-read : (mark suite kid counter : ℕ) (salt key : List ℕ) → kid < 2 ^ 64 → counter ≤ ceiling → length salt ≡ saltSize
     → RowRead (row mark suite kid counter salt key) suite kid counter salt key
-unfolding row
+unfolding row counterIn
 row-read mark suite kid counter salt key hk hc hs =
     let padding : List ℕ = replicate (keyRoom - length key) 0 in
     let r4 = salt ++ (key ++ padding) in
-    let r3 = bytes 8 counter ++ r4 in
+    let rest = counter - spentByte counter in
+    let r3 = bytes 8 rest ++ r4 in
     let r2 = bytes 8 kid ++ r3 in
-    let l = (mark ∷ suite ∷ 0 ∷ 0 ∷ []) ++ r2 in
+    let l = (mark ∷ suite ∷ spentByte counter ∷ 0 ∷ []) ++ r2 in
     let d12 : drop counterAt l ≡ r3 = drop-at (bytes 8 kid) r3 8 (bytes-length 8 kid) in
-    let d20 : drop saltAt l ≡ r4 = sym (drop-drop 8 counterAt l) ∙ ap (drop 8) d12 ∙ drop-at (bytes 8 counter) r4 8 (bytes-length 8 counter) in
+    let d20 : drop saltAt l ≡ r4 = sym (drop-drop 8 counterAt l) ∙ ap (drop 8) d12 ∙ drop-at (bytes 8 rest) r4 8 (bytes-length 8 rest) in
     let d32 : drop keyAt l ≡ key ++ padding = sym (drop-drop saltSize saltAt l) ∙ ap (drop saltSize) d20 ∙ drop-at salt (key ++ padding) saltSize hs in
     record {
       suite-is = refl;
       kid-is = number-front kid r3 hk;
-      counter-is = ap (number 8) d12 ∙ number-front counter r4 hc;
+      counter-is = ap (λ (n : ℕ). n + spentByte counter) (ap (number 8) d12 ∙ number-front rest r4 (rest-below counter hc)) ∙ rest-back counter hc;
       salt-is = ap (take saltSize) d20 ∙ take-at salt (key ++ padding) saltSize hs;
       key-is = ap (take (length key)) d32 ∙ take-at key padding (length key) refl;
     }
@@ -107,7 +110,7 @@ retiredOf suite kid counter = retired (record { suite = suite; kid = kid; counte
 
 module _ (l : List ℕ) where
   pub read-sending : getD l markAt 0 ≡ sendingMark
-      → decode l ≡ sendingOf (getD l suiteAt 0) (number 8 (drop kidAt l)) (number 8 (drop counterAt l)) (take saltSize (drop saltAt l)) (take (keySize (getD l suiteAt 0)) (drop keyAt l))
+      → decode l ≡ sendingOf (getD l suiteAt 0) (number 8 (drop kidAt l)) (counterIn l) (take saltSize (drop saltAt l)) (take (keySize (getD l suiteAt 0)) (drop keyAt l))
   unfolding decode
   read-sending e = rw e
 
@@ -116,7 +119,7 @@ module _ (l : List ℕ) where
   unfolding decode
   read-receiving e = rw e
 
-  pub read-retired : getD l markAt 0 ≡ retiredMark → decode l ≡ retiredOf (getD l suiteAt 0) (number 8 (drop kidAt l)) (number 8 (drop counterAt l))
+  pub read-retired : getD l markAt 0 ≡ retiredMark → decode l ≡ retiredOf (getD l suiteAt 0) (number 8 (drop kidAt l)) (counterIn l)
   unfolding decode
   read-retired e = rw e
 
@@ -156,7 +159,7 @@ unfolding encode
 decode-encode empty f = read-empty (replicate recordSize 0) (λ e. omega arith) (λ e. omega arith) (λ e. omega arith)
 decode-encode (sending r) f =
     let l = row sendingMark (r .suite) (r .kid) (r .counter) (r .salt) (r .key) in
-    let p = row-read sendingMark (r .suite) (r .kid) (r .counter) (r .salt) (r .key) (f .0 .kid-below) (omega (arith, f .0 .counter-most)) (f .1 .salt-length) in
+    let p = row-read sendingMark (r .suite) (r .kid) (r .counter) (r .salt) (r .key) (f .0 .kid-below) (f .0 .counter-most) (f .1 .salt-length) in
     let k = key-read l (r .suite) (r .key) (p .suite-is) (f .1 .key-length) (p .key-is) in
     read-sending l (row-mark sendingMark (r .suite) (r .kid) (r .counter) (r .salt) (r .key))
     ∙ (λ i. sendingOf (p .suite-is i) (p .kid-is i) (p .counter-is i) (p .salt-is i) (k i))
@@ -169,7 +172,7 @@ decode-encode (receiving r) f =
 decode-encode (retired r) f =
     let zeros : List ℕ = replicate saltSize 0 in
     let l = row retiredMark (r .suite) (r .kid) (r .counter) zeros [] in
-    let p = row-read retiredMark (r .suite) (r .kid) (r .counter) zeros [] (f .kid-below) (omega (arith, f .counter-most)) refl in
+    let p = row-read retiredMark (r .suite) (r .kid) (r .counter) zeros [] (f .kid-below) (f .counter-most) refl in
     read-retired l (row-mark retiredMark (r .suite) (r .kid) (r .counter) zeros []) ∙ (λ i. retiredOf (p .suite-is i) (p .kid-is i) (p .counter-is i))
 
 -- ---- what obeys its row is in range
@@ -198,16 +201,16 @@ module _ (l : List ℕ) (o : Octets l) (n : length l ≡ recordSize) where
       by : Two (eqb (getD l markAt 0) sendingMark) → Two (eqb (getD l markAt 0) receivingMark) → Two (eqb (getD l markAt 0) retiredMark) → Fit (decode l)
       by (yes′ a) b c =
           let q = read-sending l (eqb-true (getD l markAt 0) sendingMark a) in
-          let t = both-true (isSuite (getD l suiteAt 0)) (leb (number 8 (drop counterAt l)) ceiling) (rw q at e) in
-          rw q (record { known = t .0; kid-below = kid-read; counter-most = leb-true (number 8 (drop counterAt l)) ceiling (t .1) }, secret-read)
+          let t = both-true (isSuite (getD l suiteAt 0)) (leb (counterIn l) ceiling) (rw q at e) in
+          rw q (record { known = t .0; kid-below = kid-read; counter-most = leb-true (counterIn l) ceiling (t .1) }, secret-read)
       by (no′ a) (yes′ b) c =
           let q = read-receiving l (eqb-true (getD l markAt 0) receivingMark b) in
           let t : isSuite (getD l suiteAt 0) ≡ true = rw q at e in
           rw q (record { known = t; kid-below = kid-read; counter-most = omega arith }, secret-read)
       by (no′ a) (no′ b) (yes′ c) =
           let q = read-retired l (eqb-true (getD l markAt 0) retiredMark c) in
-          let t = both-true (isSuite (getD l suiteAt 0)) (leb (number 8 (drop counterAt l)) ceiling) (rw q at e) in
-          rw q (record { known = t .0; kid-below = kid-read; counter-most = leb-true (number 8 (drop counterAt l)) ceiling (t .1) })
+          let t = both-true (isSuite (getD l suiteAt 0)) (leb (counterIn l) ceiling) (rw q at e) in
+          rw q (record { known = t .0; kid-below = kid-read; counter-most = leb-true (counterIn l) ceiling (t .1) })
       by (no′ a) (no′ b) (no′ c) = rw (read-empty l (eqb-false (getD l markAt 0) sendingMark a) (eqb-false (getD l markAt 0) receivingMark b) (eqb-false (getD l markAt 0) retiredMark c)) tt
 
 pub obeys-fits : (l : List ℕ) → Octets l → length l ≡ recordSize → obeys l ≡ true → Fit (decode l) × (encode (decode l) ≡ l)

@@ -2,7 +2,7 @@
 use mathlib.Core.Path.{_≡_, refl, sym, _∙_, ap, ap₂}
 use mathlib.Core.Bool.{Bool, true, false, not, false≢true}
 use mathlib.Core.List.{List, [], _∷_, _++_, append-assoc, append-nil}
-use Prim.Native.Nat.{ℕ, suc, _+_, _-_, _≤_}
+use Prim.Native.Nat.{ℕ, suc, _+_, _-_, _<_, _≤_}
 use native.Mathlib.Omega.{arith}
 use lib.Dec.{leb, eqb}
 use lib.ListN.{length, getD, set, take, drop, replicate, length-append, length-take, length-drop, length-replicate, drop-of-length-le}
@@ -19,18 +19,19 @@ use Rattle.suites.specs.declared.sizes.Suite.{Suite}
 use Rattle.suites.specs.declared.sizes.Found.{Found}
 use Rattle.suites.specs.declared.sizes.Found.the-variants.{Known, Unknown}
 use Rattle.suites.proofs.Laws.{Nk-most, key-length, salt-length}
-use Rattle.key_record.specs.Layout.{recordSize, markAt, suiteAt, kidAt, counterAt, saltAt, keyAt, keyRoom, sendingMark, receivingMark, retiredMark, row, encode, decode}
+use Rattle.key_record.specs.Layout.{recordSize, markAt, suiteAt, spentAt, kidAt, counterAt, saltAt, keyAt, keyRoom, sendingMark, receivingMark, retiredMark, spentByte, row, encode, counterIn, decode, SpentByte}
 use Rattle.key_record.specs.Record.{ceiling, SendingKey, KeyRecord, empty, sending, receiving, retired, isEmpty, isSending, isReceiving, kidOf, holds, suiteOf, saltOf, keyOf, counterOf, advanced}
 use Rattle.key_record.specs.Suites.{isSuite, keySize, saltSize}
-use Rattle.key_record.specs.inner.Judging.{holdingMark, newRow, retiredRow}
-use Rattle.key_record.specs.inner.Rows.{Row, Numbered, kindOf, hasKey, markFor, fresh, kept}
+use Rattle.key_record.specs.inner.Judging.{holdingMark, lastCounter, newRow, retiredRow}
+use Rattle.key_record.specs.inner.Rows.{Row, Numbered, kindOf, hasKey, counterLeft, markFor, fresh, kept}
 use Rattle.key_record.specs.declared.Kind.{Kind}
 use Rattle.key_record.specs.declared.Kind.the-variants.{Empty, Sender, Receiver, Retired}
 use Rattle.key_record.specs.declared.Role.{Role}
 use Rattle.key_record.specs.declared.Role.the-variants.{Sending, Receiving}
-use Rattle.key_record.proofs.Codec.{Fit, read-sending, read-receiving, read-retired, read-empty, obeys-fits, encode-length}
+use Rattle.key_record.proofs.Codec.{Fit, row-read, read-sending, read-receiving, read-retired, read-empty, obeys-fits, encode-length}
 use Rattle.key_record.proofs.KindLaws.{holds-some}
-use Rattle.key_record.proofs.Rows.{row-counter, row-salted, row-keyed}
+use Rattle.key_record.proofs.Rows.{row-spent, row-counter, row-last, row-salted, row-keyed}
+use Rattle.key_record.proofs.Spent.{spent-none, spent-all, Spent, spent, left, spent-or-left}
 use Rattle.key_record.proofs.Suites.{suite-unnamed, key-named}
 
 -- ---- what a record is
@@ -113,15 +114,6 @@ module _ (l : List ℕ) where
       by (reads-retired m) = absurd (false≢true (sym (ap hasKey (read-retired l m)) ∙ h))
       by (reads-empty e d f) = absurd (false≢true (sym (ap hasKey e) ∙ h))
 
-  field-counter : isSending (decode l) ≡ true → number 8 (drop counterAt l) ≡ counterOf (decode l)
-  field-counter h = by (read l)
-    where
-      by : Read l → number 8 (drop counterAt l) ≡ counterOf (decode l)
-      by (reads-sending m) = sym (ap counterOf (read-sending l m))
-      by (reads-receiving m) = absurd (false≢true (sym (ap isSending (read-receiving l m)) ∙ h))
-      by (reads-retired m) = absurd (false≢true (sym (ap isSending (read-retired l m)) ∙ h))
-      by (reads-empty e d f) = absurd (false≢true (sym (ap isSending e) ∙ h))
-
 -- ---- what callers read
 
 pub fit-suite : (r : KeyRecord) → Fit r → isEmpty r ≡ false → isSuite (suiteOf r) ≡ true
@@ -129,6 +121,27 @@ fit-suite empty f e = absurd (false≢true (sym e))
 fit-suite (sending r) f e = f .0 .known
 fit-suite (receiving r) f e = f .0 .known
 fit-suite (retired r) f e = f .known
+
+some-left : (r : KeyRecord) → counterLeft r ≡ true → counterOf r ≡ ceiling → ⊥
+some-left r h e = false≢true (ap not (sym (eq-eqb (counterOf r) ceiling e)) ∙ h)
+
+pub below-left : (r : KeyRecord) → counterOf r < ceiling → counterLeft r ≡ true
+below-left r h = ap not (ne-eqb (counterOf r) ceiling (λ e. omega arith))
+
+zeros-count : (getD {A = ℕ} (replicate recordSize 0) spentAt 0 ≡ spentByte 0) × (counterIn (replicate recordSize 0) ≡ 0)
+unfolding spentByte counterIn number
+zeros-count = (refl, refl)
+
+-- the two fields of a record's next counter
+counter-fields : (r : KeyRecord) → Fit r → (getD (encode r) spentAt 0 ≡ spentByte (counterOf r)) × (counterIn (encode r) ≡ counterOf r)
+unfolding encode
+counter-fields empty f = zeros-count
+counter-fields (sending r) f =
+    (row-spent sendingMark (r .suite) (r .kid) (r .counter) (r .salt) (r .key), row-read sendingMark (r .suite) (r .kid) (r .counter) (r .salt) (r .key) (f .0 .kid-below) (f .0 .counter-most) (f .1 .salt-length) .counter-is)
+counter-fields (receiving r) f =
+    (row-spent receivingMark (r .suite) (r .kid) 0 (r .salt) (r .key), row-read receivingMark (r .suite) (r .kid) 0 (r .salt) (r .key) (f .0 .kid-below) (f .0 .counter-most) (f .1 .salt-length) .counter-is)
+counter-fields (retired r) f =
+    (row-spent retiredMark (r .suite) (r .kid) (r .counter) (replicate saltSize 0) [], row-read retiredMark (r .suite) (r .kid) (r .counter) (replicate saltSize 0) [] (f .kid-below) (f .counter-most) refl .counter-is)
 
 module _ (l : List ℕ) (o : Octets l) (w : Row l) where
   pub row-fit : Fit (decode l)
@@ -145,8 +158,50 @@ module _ (l : List ℕ) (o : Octets l) (w : Row l) where
   pub suite-told : (r : Found) (s : Suite) → isEmpty (decode l) ≡ false → r ≡ Suites.suiteOf (getD l suiteAt 0) → r ≡ Known s → Numbered s (suiteOf (decode l))
   suite-told r s h e u = ap Suites.suiteOf (field-suite l h) ∙ sym e ∙ u
 
-  pub counter-told : (v : ℕ) → isSending (decode l) ≡ true → v ≡ number 8 (take (length l - counterAt) (drop counterAt l)) → v ≡ counterOf (decode l)
-  counter-told v h e = e ∙ ap (number 8) (part-rest counterAt l) ∙ field-counter l h
+  -- the byte that says whether the counters are spent, and both fields together
+  spent-read : getD l spentAt 0 ≡ spentByte (counterOf (decode l))
+  spent-read = ap (λ (x : List ℕ). getD x spentAt 0) (sym row-bytes) ∙ counter-fields (decode l) row-fit .0
+
+  counter-read : counterIn l ≡ counterOf (decode l)
+  counter-read = ap counterIn (sym row-bytes) ∙ counter-fields (decode l) row-fit .1
+
+  pub spent-byte : SpentByte l
+  unfolding counterIn
+  spent-byte = by (spent-or-left (counterOf (decode l)))
+    where
+      whole : number 8 (drop counterAt l) + getD l spentAt 0 ≡ counterOf (decode l)
+      whole = counter-read
+
+      by : Spent (counterOf (decode l)) → SpentByte l
+      by (spent e b) =
+          let one : getD l spentAt 0 ≡ 1 = spent-read ∙ b in
+          record {
+            none-left = eq-eqb (counterOf (decode l)) ceiling e ∙ sym (eq-eqb (getD l spentAt 0) 1 one);
+            last-one = λ q. omega (arith, whole);
+            next-one = λ d. absurd (d one);
+          }
+      by (left d b) =
+          let none : getD l spentAt 0 ≡ 0 = spent-read ∙ b in
+          record {
+            none-left = ne-eqb (counterOf (decode l)) ceiling d ∙ sym (ne-eqb (getD l spentAt 0) 1 (λ q. omega arith));
+            last-one = λ q. absurd (omega arith);
+            next-one = λ q. (none, omega (arith, whole));
+          }
+
+  pub counter-told : (v : ℕ) → counterLeft (decode l) ≡ true → v ≡ number 8 (take (length l - counterAt) (drop counterAt l)) → v ≡ counterOf (decode l)
+  unfolding counterIn
+  counter-told v c e =
+      let z : getD l spentAt 0 ≡ 0 = spent-read ∙ spent-none (counterOf (decode l)) (some-left (decode l) c) in
+      let t : number 8 (drop counterAt l) + getD l spentAt 0 ≡ counterOf (decode l) = counter-read in
+      let n : v ≡ number 8 (drop counterAt l) = e ∙ ap (number 8) (part-rest counterAt l) in
+      omega arith
+
+  pub left-told : eqb (getD l spentAt 0) 0 ≡ counterLeft (decode l)
+  left-told = ap (λ (b : ℕ). eqb b 0) spent-read ∙ by (spent-or-left (counterOf (decode l)))
+    where
+      by : Spent (counterOf (decode l)) → eqb (spentByte (counterOf (decode l))) 0 ≡ counterLeft (decode l)
+      by (spent e b) = ap (λ (k : ℕ). eqb k 0) b ∙ ap not (sym (eq-eqb (counterOf (decode l)) ceiling e))
+      by (left d b) = ap (λ (k : ℕ). eqb k 0) b ∙ ap not (sym (ne-eqb (counterOf (decode l)) ceiling d))
 
 module _ (l : List ℕ) (w : Row l) where
   pub salt-told : (end : ℕ) → end ≡ keyAt → hasKey (decode l) ≡ true → (take (end - saltAt) (drop saltAt l) ≡ saltOf (decode l)) × (length (take (end - saltAt) (drop saltAt l)) ≡ saltSize)
@@ -167,22 +222,28 @@ module _ (l : List ℕ) (w : Row l) where
           simp (length-take, length-drop) (omega (arith, Nk-most s)),
         )
 
-pub left-told : (a b : ℕ) → a ≡ b → not (eqb a ceiling) ≡ not (eqb b ceiling)
-left-told a b e = ap (λ (k : ℕ). not (eqb k ceiling)) e
-
 -- ---- a counter that is taken
 
-advanced-row : (l : List ℕ) (h : KeyRecord) → encode h ≡ l → isSending h ≡ true → pasted l counterAt (bytes 8 (counterOf h + 1)) ≡ encode (advanced h)
-unfolding encode advanced
-advanced-row l empty e s = absurd (false≢true s)
-advanced-row l (receiving r) e s = absurd (false≢true s)
-advanced-row l (retired r) e s = absurd (false≢true s)
-advanced-row l (sending r) e s =
-    ap (λ (y : List ℕ). pasted y counterAt (bytes 8 (r .counter + 1))) (sym e)
-    ∙ row-counter sendingMark (r .suite) (r .kid) (r .counter) (r .counter + 1) (r .salt) (r .key)
+module _ (l : List ℕ) (v : ℕ) (o : Octets l) (w : Row l) (h : isSending (decode l) ≡ true) (c : counterOf (decode l) < ceiling) (e : v ≡ counterOf (decode l)) where
+  advanced-row : (x : List ℕ) → ((r : SendingKey) → encode (sending r) ≡ l → v ≡ r .counter → r .counter < ceiling → x ≡ encode (advanced (sending r))) → x ≡ encode (advanced (decode l))
+  advanced-row x f = by (decode l) refl h
+    where
+      by : (r : KeyRecord) → decode l ≡ r → isSending r ≡ true → x ≡ encode (advanced (decode l))
+      by empty q s = absurd (false≢true s)
+      by (receiving r) q s = absurd (false≢true s)
+      by (retired r) q s = absurd (false≢true s)
+      by (sending r) q s =
+          f r (ap encode (sym q) ∙ row-bytes l o w) (e ∙ ap counterOf q) (rw q at c) ∙ ap (λ (y : KeyRecord). encode (advanced y)) (sym q)
 
-pub advanced-told : (l x : List ℕ) (v : ℕ) → Octets l → Row l → isSending (decode l) ≡ true → v ≡ counterOf (decode l) → x ≡ pasted l counterAt (bytes 8 (v + 1)) → x ≡ encode (advanced (decode l))
-advanced-told l x v o w h e q = q ∙ ap (λ (k : ℕ). pasted l counterAt (bytes 8 (k + 1))) e ∙ advanced-row l (decode l) (row-bytes l o w) h
+  pub advanced-told : (x : List ℕ) → (v ≡ lastCounter → ⊥) → x ≡ pasted l counterAt (bytes 8 (v + 1)) → x ≡ encode (advanced (decode l))
+  unfolding encode advanced
+  advanced-told x d q = advanced-row x (λ r a b below. q ∙ ap₂ (λ (y : List ℕ) (k : ℕ). pasted y counterAt (bytes 8 (k + 1))) (sym a) b
+      ∙ row-counter sendingMark (r .suite) (r .kid) (r .counter) (r .counter + 1) (r .salt) (r .key) (spent-none (r .counter) (λ z. omega arith)) (spent-none (r .counter + 1) (λ z. d (omega arith))))
+
+  pub last-told : (x : List ℕ) → v ≡ lastCounter → x ≡ set l spentAt 1 → x ≡ encode (advanced (decode l))
+  unfolding encode advanced
+  last-told x z q = advanced-row x (λ r a b below. q ∙ ap (λ (y : List ℕ). set y spentAt 1) (sym a)
+      ∙ row-last sendingMark (r .suite) (r .kid) (r .counter) (r .counter + 1) (r .salt) (r .key) (spent-none (r .counter) (λ y. omega arith)) refl (spent-all (r .counter + 1) (omega arith)))
 
 -- ---- a row that is retired
 
@@ -201,12 +262,13 @@ retired-front : (r : SendingKey) → (retiredMark ∷ drop 1 (take saltAt (encod
 unfolding encode row
 retired-front r =
     let a = bytes 8 (r .kid) in
-    let b = bytes 8 (r .counter) in
+    let number = r .counter - spentByte (r .counter) in
+    let b = bytes 8 number in
     let rest : List ℕ = r .salt ++ (r .key ++ replicate (keyRoom - length (r .key)) 0) in
-    let n : length (a ++ b) ≡ 8 + 8 = length-append a b ∙ ap₂ _+_ (bytes-length 8 (r .kid)) (bytes-length 8 (r .counter)) in
+    let n : length (a ++ b) ≡ 8 + 8 = length-append a b ∙ ap₂ _+_ (bytes-length 8 (r .kid)) (bytes-length 8 number) in
     let numbers : take (8 + 8) (a ++ (b ++ rest)) ≡ a ++ b = ap (take (8 + 8)) (sym (append-assoc a b rest)) ∙ take-at (a ++ b) rest (8 + 8) n in
-    ap (λ (t : List ℕ). retiredMark ∷ r .suite ∷ 0 ∷ 0 ∷ (t ++ replicate (recordSize - saltAt) 0)) numbers
-    ∙ ap (λ (t : List ℕ). retiredMark ∷ r .suite ∷ 0 ∷ 0 ∷ t) (append-assoc a b (replicate (recordSize - saltAt) 0))
+    ap (λ (t : List ℕ). retiredMark ∷ r .suite ∷ spentByte (r .counter) ∷ 0 ∷ (t ++ replicate (recordSize - saltAt) 0)) numbers
+    ∙ ap (λ (t : List ℕ). retiredMark ∷ r .suite ∷ spentByte (r .counter) ∷ 0 ∷ t) (append-assoc a b (replicate (recordSize - saltAt) 0))
 
 retired-encode : (h : KeyRecord) → Fit h → isSending h ≡ true → retiredRow (encode h) ≡ encode (kept h)
 unfolding retiredRow

@@ -1,6 +1,6 @@
 -- The steps of the functions that judge a record, over plain variables. Assumes nothing.
-use mathlib.Core.Path.{_≡_}
-use mathlib.Core.Bool.{true, false}
+use mathlib.Core.Path.{_≡_, refl, sym, _∙_, ap}
+use mathlib.Core.Bool.{Bool, true, false}
 use mathlib.Core.List.{List}
 use Prim.Native.Nat.{ℕ, _+_, _-_, _<_, _≤_}
 use lib.Dec.{leb}
@@ -8,10 +8,9 @@ use lib.ListN.{length, getD, take, drop}
 use borrow.Author.Tests.{le-leb, lt-leb, eq-eqb, ne-eqb}
 use Rattle.octets.specs.Octets.{number}
 use Rattle.octets.proofs.Laws.{part-rest}
-use Rattle.key_record.specs.inner.Judging.{holdingMark, counterLimit, zerosFrom, fieldsFit}
+use Rattle.key_record.specs.inner.Judging.{holdingMark, counterFits, zerosFrom, fieldsFit}
 use Rattle.key_record.specs.Suites.{isSuite, keySize}
-use Rattle.key_record.specs.Layout.{markAt, suiteAt, reservedAt, counterAt, saltAt, keyAt, sendingMark, receivingMark, retiredMark}
-use Rattle.key_record.specs.Record.{ceiling}
+use Rattle.key_record.specs.Layout.{markAt, suiteAt, spentAt, reservedAt, counterAt, saltAt, keyAt, sendingMark, receivingMark, retiredMark}
 
 -- ---- marks
 
@@ -22,14 +21,6 @@ mark-low m h = rw (lt-leb sendingMark m h)
 pub mark-high : (m : ℕ) → sendingMark ≤ m → leb m retiredMark ≡ holdingMark m
 unfolding holdingMark
 mark-high m h = rw (le-leb sendingMark m h)
-
-pub limit-receiving : (m : ℕ) → m ≡ receivingMark → 0 ≡ counterLimit m
-unfolding counterLimit
-limit-receiving m e = rw e
-
-pub limit-other : (m : ℕ) → (m ≡ receivingMark → ⊥) → ceiling ≡ counterLimit m
-unfolding counterLimit
-limit-other m d = rw (ne-eqb m receivingMark d)
 
 pub from-retired : (m suite : ℕ) → m ≡ retiredMark → saltAt ≡ zerosFrom m suite
 unfolding zerosFrom
@@ -46,14 +37,10 @@ unfolding fieldsFit
 fields-suite l e = rw e
 
 module _ (l : List ℕ) (s : isSuite (getD l suiteAt 0) ≡ true) where
-  pub fields-two : (getD l reservedAt 0 ≡ 0 → ⊥) → false ≡ fieldsFit l
+  pub fields-reserved : (getD l reservedAt 0 ≡ 0 → ⊥) → false ≡ fieldsFit l
   unfolding fieldsFit
-  fields-two d = rw (s, ne-eqb (getD l reservedAt 0) 0 d)
+  fields-reserved d = rw (s, ne-eqb (getD l reservedAt 0) 0 d)
 
-  pub fields-three : getD l reservedAt 0 ≡ 0 → (getD l (reservedAt + 1) 0 ≡ 0 → ⊥) → false ≡ fieldsFit l
+  pub fields-counter : (b : Bool) (v : ℕ) → getD l reservedAt 0 ≡ 0 → v ≡ number 8 (take (length l - counterAt) (drop counterAt l)) → b ≡ counterFits (getD l markAt 0) (getD l spentAt 0) v → b ≡ fieldsFit l
   unfolding fieldsFit
-  fields-three e d = rw (s, eq-eqb (getD l reservedAt 0) 0 e, ne-eqb (getD l (reservedAt + 1) 0) 0 d)
-
-  pub fields-counter : (v m : ℕ) → getD l reservedAt 0 ≡ 0 → getD l (reservedAt + 1) 0 ≡ 0 → v ≡ number 8 (take (length l - counterAt) (drop counterAt l)) → m ≡ counterLimit (getD l markAt 0) → leb v m ≡ fieldsFit l
-  unfolding fieldsFit
-  fields-counter v m e d p q = rw (s, eq-eqb (getD l reservedAt 0) 0 e, eq-eqb (getD l (reservedAt + 1) 0) 0 d, p, q, part-rest counterAt l)
+  fields-counter b v e p q = q ∙ ap (λ (n : ℕ). counterFits (getD l markAt 0) (getD l spentAt 0) n) (p ∙ ap (number 8) (part-rest counterAt l)) ∙ sym (rw (s, eq-eqb (getD l reservedAt 0) 0 e))

@@ -3,4 +3,5 @@ mod Fields
 mod Judge
 pub mod KindLaws
 mod Rows
+mod Spent
 pub mod Suites

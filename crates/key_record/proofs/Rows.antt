@@ -13,12 +13,13 @@ use borrow.Author.Tests.{leb-true, le-leb, eq-eqb, eqb-true, eqb-false}
 use Rattle.octets.specs.Octets.{Octets, number, bytes, pasted, same, both}
 use Rattle.octets.proofs.Bits.{or-zero}
 use Rattle.octets.proofs.Laws.{part-rest, bytes-length, bytes-number, number-lt, octets-drop, same-refl, same-eq, same-count}
-use Rattle.key_record.specs.inner.Judging.{holdingMark, counterLimit, zerosFrom, fieldsFit}
-use Rattle.key_record.specs.Layout.{recordSize, keyRoom, sendingMark, receivingMark, retiredMark, row, encode, decode, fits, obeys, markAt, suiteAt, reservedAt, kidAt, counterAt, saltAt, keyAt}
+use Rattle.key_record.specs.inner.Judging.{holdingMark, counterFits, zerosFrom, fieldsFit}
+use Rattle.key_record.specs.Layout.{recordSize, keyRoom, sendingMark, receivingMark, retiredMark, spentByte, row, encode, counterIn, decode, fits, obeys, markAt, suiteAt, spentAt, reservedAt, kidAt, counterAt, saltAt, keyAt}
 use Rattle.key_record.specs.Record.{ceiling, KeyRecord, empty}
 use Rattle.key_record.specs.Suites.{isSuite, keySize, saltSize}
 use Rattle.answers.proofs.Basics.{Two, yes′, no′, two, both-true, both-and}
 use Rattle.key_record.proofs.Codec.{row-read, read-sending, read-receiving, read-retired, read-empty}
+use Rattle.key_record.proofs.Spent.{spent-none, TwoFields, receiving-fields, fields-receiving, fields-other, other-fields}
 use Rattle.key_record.proofs.Suites.{key-size}
 
 pub bool-iff : (a b : Bool) → (a ≡ true → b ≡ true) → (b ≡ true → a ≡ true) → a ≡ b
@@ -28,7 +29,7 @@ bool-iff false false p q = refl
 
 -- ---- a row and its parts
 
-take-four : (l : List ℕ) → kidAt ≤ length l → take kidAt l ≡ getD l markAt 0 ∷ getD l suiteAt 0 ∷ getD l reservedAt 0 ∷ getD l (reservedAt + 1) 0 ∷ []
+take-four : (l : List ℕ) → kidAt ≤ length l → take kidAt l ≡ getD l markAt 0 ∷ getD l suiteAt 0 ∷ getD l spentAt 0 ∷ getD l reservedAt 0 ∷ []
 take-four [] h = absurd (omega arith)
 take-four (a ∷ []) h = absurd (omega arith)
 take-four (a ∷ b ∷ []) h = absurd (omega arith)
@@ -46,8 +47,8 @@ module _ (l : List ℕ) (n : length l ≡ recordSize) where
       (drop-drop 8 counterAt l ∙ sym (take-append-drop saltSize (drop saltAt l)) ∙ ap (λ (t : List ℕ). take saltSize (drop saltAt l) ++ t) (drop-drop saltSize saltAt l))))
 
   -- a row with those fields is those bytes
-  row-is : (mark suite kid counter : ℕ) (salt key : List ℕ) → getD l markAt 0 ≡ mark → getD l suiteAt 0 ≡ suite → getD l reservedAt 0 ≡ 0 → getD l (reservedAt + 1) 0 ≡ 0
-      → bytes 8 kid ≡ take 8 (drop kidAt l) → bytes 8 counter ≡ take 8 (drop counterAt l) → salt ≡ take saltSize (drop saltAt l) → key ++ replicate (keyRoom - length key) 0 ≡ drop keyAt l
+  row-is : (mark suite kid counter : ℕ) (salt key : List ℕ) → getD l markAt 0 ≡ mark → getD l suiteAt 0 ≡ suite → getD l spentAt 0 ≡ spentByte counter → getD l reservedAt 0 ≡ 0
+      → bytes 8 kid ≡ take 8 (drop kidAt l) → bytes 8 (counter - spentByte counter) ≡ take 8 (drop counterAt l) → salt ≡ take saltSize (drop saltAt l) → key ++ replicate (keyRoom - length key) 0 ≡ drop keyAt l
       → row mark suite kid counter salt key ≡ l
   unfolding row
   row-is mark suite kid counter salt key a b c d e f g h =
@@ -55,45 +56,57 @@ module _ (l : List ℕ) (n : length l ≡ recordSize) where
       (sym (fields ∙ ap (λ (t : List ℕ). t ++ (take 8 (drop kidAt l) ++ (take 8 (drop counterAt l) ++ (take saltSize (drop saltAt l) ++ drop keyAt l))))
       (take-four l (omega arith) ∙ (λ i. getD l markAt 0 ∷ getD l suiteAt 0 ∷ c i ∷ d i ∷ []))))
 
-row-two : (mark suite kid counter : ℕ) (salt key : List ℕ) → getD (row mark suite kid counter salt key) reservedAt 0 ≡ 0
+pub row-spent : (mark suite kid counter : ℕ) (salt key : List ℕ) → getD (row mark suite kid counter salt key) spentAt 0 ≡ spentByte counter
 unfolding row
-row-two mark suite kid counter salt key = refl
+row-spent mark suite kid counter salt key = refl
 
-row-three : (mark suite kid counter : ℕ) (salt key : List ℕ) → getD (row mark suite kid counter salt key) (reservedAt + 1) 0 ≡ 0
+row-reserved : (mark suite kid counter : ℕ) (salt key : List ℕ) → getD (row mark suite kid counter salt key) reservedAt 0 ≡ 0
 unfolding row
-row-three mark suite kid counter salt key = refl
+row-reserved mark suite kid counter salt key = refl
 
 -- what ends a row
 row-salt : (mark suite kid counter : ℕ) (salt key : List ℕ) → drop saltAt (row mark suite kid counter salt key) ≡ salt ++ (key ++ replicate (keyRoom - length key) 0)
 unfolding row
 row-salt mark suite kid counter salt key =
     let r4 : List ℕ = salt ++ (key ++ replicate (keyRoom - length key) 0) in
-    let r3 : List ℕ = bytes 8 counter ++ r4 in
-    sym (drop-drop 8 8 (bytes 8 kid ++ r3)) ∙ ap (drop 8) (drop-at (bytes 8 kid) r3 8 (bytes-length 8 kid)) ∙ drop-at (bytes 8 counter) r4 8 (bytes-length 8 counter)
+    let rest = counter - spentByte counter in
+    let r3 : List ℕ = bytes 8 rest ++ r4 in
+    sym (drop-drop 8 8 (bytes 8 kid ++ r3)) ∙ ap (drop 8) (drop-at (bytes 8 kid) r3 8 (bytes-length 8 kid)) ∙ drop-at (bytes 8 rest) r4 8 (bytes-length 8 rest)
 
 row-tail : (mark suite kid counter : ℕ) (salt key : List ℕ) → length salt ≡ saltSize → drop keyAt (row mark suite kid counter salt key) ≡ key ++ replicate (keyRoom - length key) 0
 row-tail mark suite kid counter salt key e =
     sym (drop-drop saltSize saltAt (row mark suite kid counter salt key)) ∙ ap (drop saltSize) (row-salt mark suite kid counter salt key) ∙ drop-at salt (key ++ replicate (keyRoom - length key) 0) saltSize e
 
--- a row with another counter written over its own
-pub row-counter : (mark suite kid counter v : ℕ) (salt key : List ℕ) → pasted (row mark suite kid counter salt key) counterAt (bytes 8 v) ≡ row mark suite kid v salt key
+-- a row with the next counter written over its own, while there is one
+pub row-counter : (mark suite kid counter v : ℕ) (salt key : List ℕ) → spentByte counter ≡ 0 → spentByte v ≡ 0 → pasted (row mark suite kid counter salt key) counterAt (bytes 8 v) ≡ row mark suite kid v salt key
 unfolding row pasted
-row-counter mark suite kid counter v salt key =
+row-counter mark suite kid counter v salt key e f =
     let r4 : List ℕ = salt ++ (key ++ replicate (keyRoom - length key) 0) in
-    let r3 : List ℕ = bytes 8 counter ++ r4 in
-    let l : List ℕ = (mark ∷ suite ∷ 0 ∷ 0 ∷ []) ++ (bytes 8 kid ++ r3) in
-    ap₂ (λ (x : List ℕ) (n : ℕ). mark ∷ suite ∷ 0 ∷ 0 ∷ (x ++ (bytes 8 v ++ drop (counterAt + n) l))) (take-at (bytes 8 kid) r3 8 (bytes-length 8 kid)) (bytes-length 8 v)
-    ∙ ap (λ (x : List ℕ). mark ∷ suite ∷ 0 ∷ 0 ∷ (bytes 8 kid ++ (bytes 8 v ++ x))) (row-salt mark suite kid counter salt key)
+    let r3 : List ℕ = bytes 8 (counter - spentByte counter) ++ r4 in
+    let front : List ℕ → List ℕ = λ (x : List ℕ). mark ∷ suite ∷ spentByte counter ∷ 0 ∷ x in
+    let l : List ℕ = front (bytes 8 kid ++ r3) in
+    let whole : v ≡ v - spentByte v = omega arith in
+    ap₂ (λ (x : List ℕ) (n : ℕ). front (x ++ (bytes 8 v ++ drop (counterAt + n) l))) (take-at (bytes 8 kid) r3 8 (bytes-length 8 kid)) (bytes-length 8 v)
+    ∙ ap (λ (x : List ℕ). front (bytes 8 kid ++ (bytes 8 v ++ x))) (row-salt mark suite kid counter salt key)
+    ∙ ap₂ (λ (b n : ℕ). mark ∷ suite ∷ b ∷ 0 ∷ (bytes 8 kid ++ (bytes 8 n ++ r4))) (e ∙ sym f) whole
+
+-- a row whose last counter is used
+pub row-last : (mark suite kid counter v : ℕ) (salt key : List ℕ) → spentByte counter ≡ 0 → v ≡ counter + 1 → spentByte v ≡ 1 → set (row mark suite kid counter salt key) spentAt 1 ≡ row mark suite kid v salt key
+unfolding row
+row-last mark suite kid counter v salt key e q f =
+    let r4 : List ℕ = salt ++ (key ++ replicate (keyRoom - length key) 0) in
+    let same-rest : counter - spentByte counter ≡ v - spentByte v = omega arith in
+    ap₂ (λ (b n : ℕ). mark ∷ suite ∷ b ∷ 0 ∷ (bytes 8 kid ++ (bytes 8 n ++ r4))) (sym f) same-rest
 
 -- a row that was empty, field by field
 pub row-start : (l x : List ℕ) (mark suite kid : ℕ) → l ≡ replicate recordSize 0 → x ≡ pasted l kidAt (bytes 8 kid) → set (set x suiteAt suite) markAt mark ≡ row mark suite kid 0 (replicate saltSize 0) []
-unfolding row pasted bytes
+unfolding row spentByte pasted bytes
 row-start l x mark suite kid e q =
     ap (λ (t : List ℕ). set (set t suiteAt suite) markAt mark) (q ∙ ap (λ (t : List ℕ). pasted t kidAt (bytes 8 kid)) e)
 
 -- what stands before the salt
 rowHead : ℕ → ℕ → ℕ → ℕ → List ℕ
-rowHead mark suite kid counter = (mark ∷ suite ∷ 0 ∷ 0 ∷ []) ++ (bytes 8 kid ++ bytes 8 counter)
+rowHead mark suite kid counter = (mark ∷ suite ∷ spentByte counter ∷ 0 ∷ []) ++ (bytes 8 kid ++ bytes 8 (counter - spentByte counter))
 
 head-length : (mark suite kid counter : ℕ) → length (rowHead mark suite kid counter) ≡ saltAt
 unfolding rowHead
@@ -147,23 +160,21 @@ zerosEnd l = same (replicate (length (drop (zerosFrom (getD l markAt 0) (getD l 
 
 record Passes (l : List ℕ) : Type 0 where
   suite-known : isSuite (getD l suiteAt 0) ≡ true
-  two-zero : getD l reservedAt 0 ≡ 0
-  three-zero : getD l (reservedAt + 1) 0 ≡ 0
-  counter-most : number 8 (drop counterAt l) ≤ counterLimit (getD l markAt 0)
+  reserved-zero : getD l reservedAt 0 ≡ 0
+  counter-fits : counterFits (getD l markAt 0) (getD l spentAt 0) (number 8 (drop counterAt l)) ≡ true
   zeros-end : replicate (length (drop (zerosFrom (getD l markAt 0) (getD l suiteAt 0)) l)) 0 ≡ drop (zerosFrom (getD l markAt 0) (getD l suiteAt 0)) l
 
 tests-pass : (l : List ℕ) → both (fieldsFit l) (zerosEnd l) ≡ true → Passes l
 unfolding fieldsFit
 tests-pass l e =
+    let fits-there = counterFits (getD l markAt 0) (getD l spentAt 0) (number 8 (drop counterAt l)) in
     let a = both-true (fieldsFit l) (zerosEnd l) e in
-    let b = both-true (isSuite (getD l suiteAt 0)) (both (eqb (getD l reservedAt 0) 0) (both (eqb (getD l (reservedAt + 1) 0) 0) (leb (number 8 (drop counterAt l)) (counterLimit (getD l markAt 0))))) (a .0) in
-    let c = both-true (eqb (getD l reservedAt 0) 0) (both (eqb (getD l (reservedAt + 1) 0) 0) (leb (number 8 (drop counterAt l)) (counterLimit (getD l markAt 0)))) (b .1) in
-    let d = both-true (eqb (getD l (reservedAt + 1) 0) 0) (leb (number 8 (drop counterAt l)) (counterLimit (getD l markAt 0))) (c .1) in
+    let b = both-true (isSuite (getD l suiteAt 0)) (both (eqb (getD l reservedAt 0) 0) fits-there) (a .0) in
+    let c = both-true (eqb (getD l reservedAt 0) 0) fits-there (b .1) in
     record {
       suite-known = b .0;
-      two-zero = eqb-true (getD l reservedAt 0) 0 (c .0);
-      three-zero = eqb-true (getD l (reservedAt + 1) 0) 0 (d .0);
-      counter-most = leb-true (number 8 (drop counterAt l)) (counterLimit (getD l markAt 0)) (d .1);
+      reserved-zero = eqb-true (getD l reservedAt 0) 0 (c .0);
+      counter-fits = c .1;
       zeros-end = same-eq _ _ (a .1);
     }
 
@@ -171,8 +182,7 @@ pass-tests : (l : List ℕ) → Passes l → both (fieldsFit l) (zerosEnd l) ≡
 unfolding fieldsFit
 pass-tests l p =
     both-and _ _
-    (both-and _ _ (p .suite-known) (both-and _ _ (eq-eqb (getD l reservedAt 0) 0 (p .two-zero))
-    (both-and _ _ (eq-eqb (getD l (reservedAt + 1) 0) 0 (p .three-zero)) (le-leb (number 8 (drop counterAt l)) (counterLimit (getD l markAt 0)) (p .counter-most)))))
+    (both-and _ _ (p .suite-known) (both-and _ _ (eq-eqb (getD l reservedAt 0) 0 (p .reserved-zero)) (p .counter-fits)))
     (ap (λ (t : List ℕ). same t (drop (zerosFrom (getD l markAt 0) (getD l suiteAt 0)) l)) (p .zeros-end) ∙ same-refl (drop (zerosFrom (getD l markAt 0) (getD l suiteAt 0)) l))
 
 module _ (l : List ℕ) (o : Octets l) (n : length l ≡ recordSize) where
@@ -192,54 +202,72 @@ module _ (l : List ℕ) (o : Octets l) (n : length l ≡ recordSize) where
   both-tests : (x : List ℕ) (f : Bool) → x ≡ l → f ≡ true → both (same x l) f ≡ true
   both-tests x f p q = both-and (same x l) f (ap (λ (t : List ℕ). same t l) p ∙ same-refl l) q
 
+  -- the two fields of the next counter of a record that is not for receiving
+  two-fields : (getD l markAt 0 ≡ receivingMark → ⊥) → Passes l → TwoFields (getD l spentAt 0) (number 8 (drop counterAt l))
+  two-fields d p = fields-other (getD l markAt 0) (getD l spentAt 0) (number 8 (drop counterAt l)) d (number-lt 8 (drop counterAt l) (octets-drop counterAt l o)) (p .counter-fits)
+
+  -- and the bytes of its number
+  rest-bytes : (f : TwoFields (getD l spentAt 0) (number 8 (drop counterAt l))) → bytes 8 (counterIn l - spentByte (counterIn l)) ≡ take 8 (drop counterAt l)
+  unfolding counterIn
+  rest-bytes f = ap (bytes 8) (f .rest-is) ∙ part-is counterAt (omega arith)
+
+  spent-there : (f : TwoFields (getD l spentAt 0) (number 8 (drop counterAt l))) → (getD l spentAt 0 ≡ spentByte (counterIn l)) × (counterIn l ≤ ceiling)
+  unfolding counterIn
+  spent-there f = (f .byte-is, f .most)
+
   sending-passes : getD l markAt 0 ≡ sendingMark → Passes l → obeys l ≡ true
-  unfolding obeys encode fits counterLimit zerosFrom
+  unfolding obeys encode fits zerosFrom
   sending-passes m p =
+      let f = two-fields (λ e. omega arith) p in
+      let s = spent-there f in
       let suite = getD l suiteAt 0 in
       let kid = number 8 (drop kidAt l) in
-      let counter = number 8 (drop counterAt l) in
+      let counter = counterIn l in
       let salt = take saltSize (drop saltAt l) in
       let key = take (keySize (getD l suiteAt 0)) (drop keyAt l) in
       rw (read-sending l m)
       (both-tests (row sendingMark suite kid counter salt key) _
-      (row-is l n sendingMark suite kid counter salt key m refl (p .two-zero) (p .three-zero) (part-is kidAt (omega arith)) (part-is counterAt (omega arith)) refl (key-end (rw m at (p .zeros-end))))
-      (both-and _ _ (p .suite-known) (le-leb counter ceiling (rw m at (p .counter-most)))))
+      (row-is l n sendingMark suite kid counter salt key m refl (s .0) (p .reserved-zero) (part-is kidAt (omega arith)) (rest-bytes f) refl (key-end (rw m at (p .zeros-end))))
+      (both-and _ _ (p .suite-known) (le-leb counter ceiling (s .1))))
 
   receiving-passes : getD l markAt 0 ≡ receivingMark → Passes l → obeys l ≡ true
-  unfolding obeys encode fits counterLimit zerosFrom
+  unfolding obeys encode fits zerosFrom
   receiving-passes m p =
       let suite = getD l suiteAt 0 in
       let kid = number 8 (drop kidAt l) in
       let salt = take saltSize (drop saltAt l) in
       let key = take (keySize (getD l suiteAt 0)) (drop keyAt l) in
-      let none-yet : number 8 (drop counterAt l) ≤ 0 = rw m at (p .counter-most) in
-      let zero-counter : 0 ≡ number 8 (drop counterAt l) = omega arith in
+      let z = receiving-fields (getD l markAt 0) (getD l spentAt 0) (number 8 (drop counterAt l)) m (p .counter-fits) in
+      let none-spent = spent-none 0 (λ e. omega arith) in
+      let zero-counter : 0 - spentByte 0 ≡ number 8 (drop counterAt l) = omega (arith, z .1) in
       rw (read-receiving l m)
       (both-tests (row receivingMark suite kid 0 salt key) _
-      (row-is l n receivingMark suite kid 0 salt key m refl (p .two-zero) (p .three-zero) (part-is kidAt (omega arith)) (ap (bytes 8) zero-counter ∙ part-is counterAt (omega arith)) refl (key-end (rw m at (p .zeros-end))))
+      (row-is l n receivingMark suite kid 0 salt key m refl (z .0 ∙ sym none-spent) (p .reserved-zero) (part-is kidAt (omega arith)) (ap (bytes 8) zero-counter ∙ part-is counterAt (omega arith)) refl (key-end (rw m at (p .zeros-end))))
       (p .suite-known))
 
   retired-passes : getD l markAt 0 ≡ retiredMark → Passes l → obeys l ≡ true
-  unfolding obeys encode fits counterLimit zerosFrom
+  unfolding obeys encode fits zerosFrom
   retired-passes m p =
+      let f = two-fields (λ e. omega arith) p in
+      let s = spent-there f in
       let suite = getD l suiteAt 0 in
       let kid = number 8 (drop kidAt l) in
-      let counter = number 8 (drop counterAt l) in
+      let counter = counterIn l in
       let k : length (drop saltAt l) ≡ recordSize - saltAt = simp length-drop (omega arith) in
       let z : replicate (recordSize - saltAt) 0 ≡ drop saltAt l = ap (λ (j : ℕ). replicate {A = ℕ} j 0) (sym k) ∙ (rw m at (p .zeros-end)) in
       rw (read-retired l m)
       (both-tests (row retiredMark suite kid counter (replicate saltSize 0) []) _
-      (row-is l n retiredMark suite kid counter (replicate saltSize 0) [] m refl (p .two-zero) (p .three-zero) (part-is kidAt (omega arith)) (part-is counterAt (omega arith)) (ap (take saltSize) z) (ap (drop saltSize) z ∙ drop-drop saltSize saltAt l))
-      (both-and _ _ (p .suite-known) (le-leb counter ceiling (rw m at (p .counter-most)))))
+      (row-is l n retiredMark suite kid counter (replicate saltSize 0) [] m refl (s .0) (p .reserved-zero) (part-is kidAt (omega arith)) (rest-bytes f) (ap (take saltSize) z) (ap (drop saltSize) z ∙ drop-drop saltSize saltAt l))
+      (both-and _ _ (p .suite-known) (le-leb counter ceiling (s .1))))
 
   -- ---- and the other way round
 
   module _ (mark suite kid counter : ℕ) (salt key : List ℕ) (w : row mark suite kid counter salt key ≡ l) where
-    two-is : getD l reservedAt 0 ≡ 0
-    two-is = ap (λ (t : List ℕ). getD t reservedAt 0) (sym w) ∙ row-two mark suite kid counter salt key
+    spent-is : getD l spentAt 0 ≡ spentByte counter
+    spent-is = ap (λ (t : List ℕ). getD t spentAt 0) (sym w) ∙ row-spent mark suite kid counter salt key
 
-    three-is : getD l (reservedAt + 1) 0 ≡ 0
-    three-is = ap (λ (t : List ℕ). getD t (reservedAt + 1) 0) (sym w) ∙ row-three mark suite kid counter salt key
+    reserved-is : getD l reservedAt 0 ≡ 0
+    reserved-is = ap (λ (t : List ℕ). getD t reservedAt 0) (sym w) ∙ row-reserved mark suite kid counter salt key
 
     end-is : length salt ≡ saltSize → replicate (length (drop (keyAt + length key) l)) 0 ≡ drop (keyAt + length key) l
     end-is e =
@@ -252,12 +280,17 @@ module _ (l : List ℕ) (o : Octets l) (n : length l ≡ recordSize) where
   key-length : length (take (keySize (getD l suiteAt 0)) (drop keyAt l)) ≡ keySize (getD l suiteAt 0)
   key-length = let s = key-size (getD l suiteAt 0) in simp (length-take, length-drop) (omega arith)
 
+  -- two fields that are written back as they are fit
+  written-fits : (getD l markAt 0 ≡ receivingMark → ⊥) → getD l spentAt 0 ≡ spentByte (counterIn l) → counterFits (getD l markAt 0) (getD l spentAt 0) (number 8 (drop counterAt l)) ≡ true
+  unfolding counterIn
+  written-fits d e = other-fields (getD l markAt 0) (getD l spentAt 0) (number 8 (drop counterAt l)) d e
+
   passes-sending : getD l markAt 0 ≡ sendingMark → obeys l ≡ true → Passes l
-  unfolding obeys encode fits counterLimit zerosFrom
+  unfolding obeys encode fits zerosFrom
   passes-sending m e =
       let q : both (same (encode (decode l)) l) (fits (decode l)) ≡ true = e in
       let kid = number 8 (drop kidAt l) in
-      let counter = number 8 (drop counterAt l) in
+      let counter = counterIn l in
       let salt = take saltSize (drop saltAt l) in
       let key = take (keySize (getD l suiteAt 0)) (drop keyAt l) in
       let r = row sendingMark (getD l suiteAt 0) kid counter salt key in
@@ -266,14 +299,17 @@ module _ (l : List ℕ) (o : Octets l) (n : length l ≡ recordSize) where
       let w : r ≡ l = same-eq r l (t .0) in
       record {
         suite-known = f .0;
-        two-zero = two-is sendingMark (getD l suiteAt 0) kid counter salt key w;
-        three-zero = three-is sendingMark (getD l suiteAt 0) kid counter salt key w;
-        counter-most = rw m (leb-true counter ceiling (f .1));
+        reserved-zero = reserved-is sendingMark (getD l suiteAt 0) kid counter salt key w;
+        counter-fits = written-fits (λ e. omega arith) (spent-is sendingMark (getD l suiteAt 0) kid counter salt key w);
         zeros-end = rw m (rw key-length at (end-is sendingMark (getD l suiteAt 0) kid counter salt key w salt-length));
       }
 
+  none-counted : counterIn l ≡ 0 → number 8 (drop counterAt l) ≡ 0
+  unfolding counterIn
+  none-counted e = omega arith
+
   passes-receiving : getD l markAt 0 ≡ receivingMark → obeys l ≡ true → Passes l
-  unfolding obeys encode fits counterLimit zerosFrom
+  unfolding obeys encode fits zerosFrom
   passes-receiving m e =
       let q : both (same (encode (decode l)) l) (fits (decode l)) ≡ true = e in
       let kid = number 8 (drop kidAt l) in
@@ -283,21 +319,21 @@ module _ (l : List ℕ) (o : Octets l) (n : length l ≡ recordSize) where
       let t = both-true (same r l) (isSuite (getD l suiteAt 0)) (rw (read-receiving l m) at q) in
       let w : r ≡ l = same-eq r l (t .0) in
       let c = row-read receivingMark (getD l suiteAt 0) kid 0 salt key (number-lt 8 (drop kidAt l) (octets-drop kidAt l o)) (omega arith) salt-length .counter-is in
-      let z : number 8 (drop counterAt l) ≡ 0 = ap (λ (t : List ℕ). number 8 (drop counterAt t)) (sym w) ∙ c in
+      let z : counterIn l ≡ 0 = ap counterIn (sym w) ∙ c in
+      let s : getD l spentAt 0 ≡ 0 = spent-is receivingMark (getD l suiteAt 0) kid 0 salt key w ∙ spent-none 0 (λ e. omega arith) in
       record {
         suite-known = t .1;
-        two-zero = two-is receivingMark (getD l suiteAt 0) kid 0 salt key w;
-        three-zero = three-is receivingMark (getD l suiteAt 0) kid 0 salt key w;
-        counter-most = rw (m, z) (omega arith);
+        reserved-zero = reserved-is receivingMark (getD l suiteAt 0) kid 0 salt key w;
+        counter-fits = fields-receiving (getD l markAt 0) (getD l spentAt 0) (number 8 (drop counterAt l)) m s (none-counted z);
         zeros-end = rw m (rw key-length at (end-is receivingMark (getD l suiteAt 0) kid 0 salt key w salt-length));
       }
 
   passes-retired : getD l markAt 0 ≡ retiredMark → obeys l ≡ true → Passes l
-  unfolding obeys encode fits counterLimit zerosFrom
+  unfolding obeys encode fits zerosFrom
   passes-retired m e =
       let q : both (same (encode (decode l)) l) (fits (decode l)) ≡ true = e in
       let kid = number 8 (drop kidAt l) in
-      let counter = number 8 (drop counterAt l) in
+      let counter = counterIn l in
       let salt : List ℕ = replicate saltSize 0 in
       let r = row retiredMark (getD l suiteAt 0) kid counter salt [] in
       let t = both-true (same r l) (both (isSuite (getD l suiteAt 0)) (leb counter ceiling)) (rw (read-retired l m) at q) in
@@ -305,9 +341,8 @@ module _ (l : List ℕ) (o : Octets l) (n : length l ≡ recordSize) where
       let w : r ≡ l = same-eq r l (t .0) in
       record {
         suite-known = f .0;
-        two-zero = two-is retiredMark (getD l suiteAt 0) kid counter salt [] w;
-        three-zero = three-is retiredMark (getD l suiteAt 0) kid counter salt [] w;
-        counter-most = rw m (leb-true counter ceiling (f .1));
+        reserved-zero = reserved-is retiredMark (getD l suiteAt 0) kid counter salt [] w;
+        counter-fits = written-fits (λ e. omega arith) (spent-is retiredMark (getD l suiteAt 0) kid counter salt [] w);
         zeros-end = rw m (zeros-are (drop saltAt l) (recordSize - saltAt) (ap (drop saltAt) (sym w) ∙ row-salt retiredMark (getD l suiteAt 0) kid counter salt []));
       }
 

@@ -1,12 +1,13 @@
 -- The layout: a record's form in bytes, and when bytes obey it. Only this file knows where a field stands.
 -- Assumes nothing.
+use mathlib.Core.Path.{_≡_}
 use mathlib.Core.Bool.{Bool, true}
 use mathlib.Core.List.{List, [], _∷_, _++_}
-use Prim.Native.Nat.{ℕ, _-_}
+use Prim.Native.Nat.{ℕ, _+_, _-_}
 use lib.Dec.{leb, eqb}
 use lib.ListN.{length, getD, take, drop, replicate}
 use Rattle.octets.specs.Octets.{number, bytes, same, pick, both}
-use Rattle.key_record.specs.Record.{ceiling, KeyRecord, empty, sending, receiving, retired}
+use Rattle.key_record.specs.Record.{ceiling, KeyRecord, empty, sending, receiving, retired, counterOf}
 use Rattle.key_record.specs.Suites.{isSuite, keySize, saltSize}
 
 -- ---- sizes
@@ -14,15 +15,19 @@ use Rattle.key_record.specs.Suites.{isSuite, keySize, saltSize}
 abbrev pub recordSize : ℕ
 recordSize = 80
 
--- where its fields stand: the mark, the suite, the two reserved bytes, the KID, the next counter, the salt and the key
+-- where its fields stand: the mark, the suite, whether the counters are spent, a reserved byte, the KID, the next counter, the
+-- salt and the key
 abbrev pub markAt : ℕ
 markAt = 0
 
 abbrev pub suiteAt : ℕ
 suiteAt = 1
 
+abbrev pub spentAt : ℕ
+spentAt = 2
+
 abbrev pub reservedAt : ℕ
-reservedAt = 2
+reservedAt = 3
 
 abbrev pub kidAt : ℕ
 kidAt = 4
@@ -52,10 +57,15 @@ receivingMark = 2
 abbrev pub retiredMark : ℕ
 retiredMark = 3
 
--- Mark, suite, two zeros, KID, next counter, salt, key, zeros up to the record's end.
+-- A next counter has two fields: a byte that is 1 when the last counter has been used, else 0, and eight bytes, which then stay
+-- at that last one.
+unfoldable pub spentByte : ℕ → ℕ
+spentByte counter = pick (eqb counter ceiling) 1 0
+
+-- Mark, suite, spent byte, a zero, KID, next counter, salt, key, zeros up to the record's end.
 unfoldable pub row : (mark suite kid counter : ℕ) (salt key : List ℕ) → List ℕ
 row mark suite kid counter salt key =
-    (mark ∷ suite ∷ 0 ∷ 0 ∷ []) ++ (bytes 8 kid ++ (bytes 8 counter ++ (salt ++ (key ++ replicate (keyRoom - length key) 0))))
+    (mark ∷ suite ∷ spentByte counter ∷ 0 ∷ []) ++ (bytes 8 kid ++ (bytes 8 (counter - spentByte counter) ++ (salt ++ (key ++ replicate (keyRoom - length key) 0))))
 
 unfoldable pub encode : KeyRecord → List ℕ
 encode empty = replicate recordSize 0
@@ -63,13 +73,17 @@ encode (sending r) = row sendingMark (r .suite) (r .kid) (r .counter) (r .salt) 
 encode (receiving r) = row receivingMark (r .suite) (r .kid) 0 (r .salt) (r .key)
 encode (retired r) = row retiredMark (r .suite) (r .kid) (r .counter) (replicate saltSize 0) []
 
+-- The next counter that a record's bytes give.
+unfoldable pub counterIn : List ℕ → ℕ
+counterIn l = number 8 (drop counterAt l) + getD l spentAt 0
+
 -- A record's bytes as a record; bytes with no mark that is known count as empty.
 unfoldable pub decode : List ℕ → KeyRecord
 decode l =
     let mark = getD l markAt 0 in
     let suite = getD l suiteAt 0 in
     let kid = number 8 (drop kidAt l) in
-    let counter = number 8 (drop counterAt l) in
+    let counter = counterIn l in
     let salt = take saltSize (drop saltAt l) in
     let key = take (keySize suite) (drop keyAt l) in
     pick (eqb mark sendingMark) (sending (record { suite = suite; kid = kid; counter = counter; salt = salt; key = key }))
@@ -86,3 +100,10 @@ fits (retired r) = both (isSuite (r .suite)) (leb (r .counter) ceiling)
 -- A record's bytes obey their row: they are those of the record they are read as, and its values are in range.
 unfoldable pub obeys : List ℕ → Bool
 obeys l = both (same (encode (decode l)) l) (fits (decode l))
+
+-- What the spent byte says of bytes that obey their row: it is 1 just where no counter is left, and the counter's bytes are then
+-- the last one; else it is 0, and they are the next counter.
+pub record SpentByte (l : List ℕ) : Type 0 where
+  pub none-left : eqb (counterOf (decode l)) ceiling ≡ eqb (getD l spentAt 0) 1
+  pub last-one : getD l spentAt 0 ≡ 1 → number 8 (drop counterAt l) ≡ ceiling - 1
+  pub next-one : (getD l spentAt 0 ≡ 1 → ⊥) → (getD l spentAt 0 ≡ 0) × (number 8 (drop counterAt l) ≡ counterOf (decode l))

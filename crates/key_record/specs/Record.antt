@@ -5,9 +5,9 @@ use mathlib.Core.List.{List, []}
 use Prim.Native.Nat.{ℕ, _+_, _^_}
 use lib.Dec.{eqb}
 
--- no counter reaches this
+-- No counter reaches this. It is the next counter of a key whose last one has been used.
 abbrev pub ceiling : ℕ
-ceiling = 2 ^ 40
+ceiling = 2 ^ 64
 
 -- ---- records
 

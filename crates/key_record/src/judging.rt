@@ -5,17 +5,18 @@ ghost use lib.ListN.{length, replicate};
 ghost use Rattle.octets.specs.Octets.{same};
 ghost use Rattle.key_record.specs.Layout.{recordSize, keyRoom, obeys};
 ghost use Rattle.key_record.specs.Suites.{isSuite, keySize};
-ghost use Rattle.key_record.specs.inner.Judging.{holdingMark, counterLimit, zerosFrom, fieldsFit};
-use crate::CEILING;
+ghost use Rattle.key_record.specs.inner.Judging.{holdingMark, counterFits, zerosFrom, fieldsFit};
 use crate::COUNTER;
 use crate::EMPTY;
 use crate::KEY;
+use crate::LAST;
 use crate::MARK;
 use crate::RECEIVING;
 use crate::RESERVED;
 use crate::RETIRED;
 use crate::SALT;
 use crate::SENDING;
+use crate::SPENT;
 use crate::SUITE;
 use suites::sizes::Found;
 
@@ -62,11 +63,23 @@ pub fn is_held(mark: u8) -> bool
     mark <= RETIRED
 }
 
-// The highest next counter of a record with that mark.
-fn counter_limit(mark: u8) -> u64
-    ensures { λ r. ⌜ r ≡ counterLimit mark ⌝ }
+// Whether the two fields of a next counter fit a record with that mark.
+fn counter_fits(mark: u8, spent: u8, counter: u64) -> bool
+    ensures { λ r. ⌜ r ≡ counterFits mark spent counter ⌝ }
 {
-    if mark == RECEIVING { 0 } else { CEILING }
+    if mark == RECEIVING {
+        if spent != 0 {
+            return false;
+        }
+        return counter == 0;
+    }
+    if spent == 0 {
+        return true;
+    }
+    if spent != 1 {
+        return false;
+    }
+    counter == LAST
 }
 
 // Where the zeros begin that end a record with that mark and that suite.
@@ -90,10 +103,7 @@ fn fields_fit(row: &[u8]) -> bool
     if row[RESERVED] != 0 {
         return false;
     }
-    if row[RESERVED + 1] != 0 {
-        return false;
-    }
-    octets::read_be64(&row[COUNTER..]) <= counter_limit(row[MARK])
+    counter_fits(row[MARK], row[SPENT], octets::read_be64(&row[COUNTER..]))
 }
 
 // Whether a record's bytes obey their row.

@@ -9,7 +9,9 @@ const MARK: usize = 0;
 
 const SUITE: usize = 1;
 
-const RESERVED: usize = 2;
+const SPENT: usize = 2;
+
+const RESERVED: usize = 3;
 
 const KID: usize = 4;
 
@@ -28,8 +30,8 @@ const RECEIVING: u8 = 2;
 
 const RETIRED: u8 = 3;
 
-// No counter reaches this.
-const CEILING: u64 = 0x100_0000_0000;
+// The last counter.
+const LAST: u64 = 0xffff_ffff_ffff_ffff;
 
 // What a key is added for.
 pub enum Role {

@@ -1,28 +1,28 @@
 // One record's bytes, read and written as the record that they are.
 ghost use mathlib.Core.Path.{_≡_};
-ghost use mathlib.Core.Bool.{true, false, not};
+ghost use mathlib.Core.Bool.{true, false};
 ghost use mathlib.Core.List.{[]};
 ghost use Prim.Native.Nat.{_≤_, _<_};
-ghost use lib.Dec.{eqb};
 ghost use lib.ListN.{length, replicate};
 ghost use Rattle.answers.specs.Limits.{baseKeyMost};
 ghost use Rattle.key_record.specs.Layout.{recordSize, encode, decode};
 ghost use Rattle.key_record.specs.Record.{ceiling, empty, isEmpty, isSending, isReceiving, kidOf, holds, suiteOf, saltOf, keyOf, counterOf, advanced};
 ghost use Rattle.key_record.specs.Suites.{saltSize};
 ghost use Rattle.key_record.specs.inner.Judging.{newRow};
-ghost use Rattle.key_record.specs.inner.Rows.{Row, Numbered, kindOf, hasKey, markFor, fresh, kept};
+ghost use Rattle.key_record.specs.inner.Rows.{Row, Numbered, kindOf, hasKey, counterLeft, markFor, fresh, kept};
 ghost use Rattle.suites.specs.Suites.{Nk};
-use crate::CEILING;
 use crate::COUNTER;
 use crate::KEY;
 use crate::KID;
 use crate::Kind;
+use crate::LAST;
 use crate::MARK;
 use crate::RECEIVING;
 use crate::RETIRED;
 use crate::Role;
 use crate::SALT;
 use crate::SENDING;
+use crate::SPENT;
 use crate::SUITE;
 use crate::judging::is_held;
 use header::Ctr;
@@ -102,9 +102,9 @@ pub fn suite_of(row: &[u8]) -> Suite
     suite
 }
 
-// The next counter of a sending record.
+// The next counter of a sending record that has one left.
 pub fn next_of(row: &[u8]) -> Ctr
-    requires { ⌜ (Row (now row)) × (isSending (decode (now row)) ≡ true) ⌝ }
+    requires { ⌜ (Row (now row)) × (isSending (decode (now row)) ≡ true) × (counterLeft (decode (now row)) ≡ true) ⌝ }
     ensures { λ r. ⌜ r .0 ≡ counterOf (decode (now (row .entry))) ⌝ }
 {
     Ctr(octets::read_be64(&row[COUNTER..]))
@@ -113,10 +113,9 @@ pub fn next_of(row: &[u8]) -> Ctr
 // Whether a sending record has a counter left.
 pub fn counter_left(row: &[u8]) -> bool
     requires { ⌜ (Row (now row)) × (isSending (decode (now row)) ≡ true) ⌝ }
-    ensures { λ r. ⌜ r ≡ not (eqb (counterOf (decode (now (row .entry)))) ceiling) ⌝ }
+    ensures { λ r. ⌜ r ≡ counterLeft (decode (now (row .entry))) ⌝ }
 {
-    let ctr = next_of(row);
-    ctr.0 != CEILING
+    row[SPENT] == 0
 }
 
 // The salt of a record.
@@ -168,13 +167,17 @@ pub fn fill(row: &mut [u8], role: Role, suite: Suite, kid: Kid, base: &[u8])
     suites::derivation::derive_key(suite, base, kid, &mut row[KEY..key_end]);
 }
 
-// Takes the next counter of a sending record.
+// Takes the next counter of a sending record. Nothing is added to the last one.
 pub fn advance(row: &mut [u8])
     requires { ⌜ (Row (now row)) × (isSending (decode (now row)) ≡ true) × (counterOf (decode (now row)) < ceiling) ⌝ }
     ensures { λ _. ⌜ now (row .exit) ≡ encode (advanced (decode (now (row .entry)))) ⌝ }
 {
     let ctr = next_of(row);
-    octets::write_be_at(row, COUNTER, 8, ctr.0 + 1);
+    if ctr.0 == LAST {
+        row[SPENT] = 1;
+    } else {
+        octets::write_be_at(row, COUNTER, 8, ctr.0 + 1);
+    }
 }
 
 // Retires a sending record.

@@ -33,7 +33,7 @@ use Rattle.store.specs.Sframe.{encryptBy, sframe}
 use Rattle.store.specs.Store.{encodeAll, records, sound}
 use Rattle.key_record.specs.Suites.{tagSize}
 use Rattle.store.specs.Table.{get, put, apart, FoundIn}
-use Rattle.key_record.specs.inner.Rows.{Numbered}
+use Rattle.key_record.specs.inner.Rows.{Numbered, counterLeft}
 use Rattle.store.specs.inner.Places.{RowOf}
 use Rattle.store.specs.declared.Place.{Place}
 use Rattle.store.specs.declared.Place.the-variants.{At, Nowhere}
@@ -112,7 +112,7 @@ module _ (held : KeyRecord) (kid metadata plaintext room : ℕ) where
 -- what holds of a record where no cause applies
 pub record Clear (held : KeyRecord) (kid metadata plaintext room : ℕ) : Type 0 where
   pub sends : isSending held ≡ true
-  pub counter-left : counterOf held ≡ ceiling → ⊥
+  pub counter-left : counterLeft held ≡ true
   pub plaintext-most : plaintext ≤ maxPlaintext
   pub metadata-most : metadata ≤ maxMetadata
   pub room-enough : nextLength held kid plaintext ≤ room
@@ -124,7 +124,7 @@ clear held kid metadata plaintext room z =
     let sizes = not-long plaintext metadata (p .1 .1 .1 .1 .0) in
     record {
       sends = not-false (isSending held) (p .1 .1 .0);
-      counter-left = eqb-false (counterOf held) ceiling (p .1 .1 .1 .0);
+      counter-left = ap not (p .1 .1 .1 .0);
       plaintext-most = sizes .0;
       metadata-most = sizes .1;
       room-enough = omega (arith, ltb-false room (0 + nextLength held kid plaintext) (p .1 .1 .1 .1 .1 .0));
@@ -246,7 +246,7 @@ module _ (s : List ℕ) (kid : ℕ) (metadata plaintext room : List ℕ) where
           pub counter-below : Octets s → counterOf (getD (records s) i empty) < ceiling
           counter-below o =
               let h : Fit (getD (records s) i empty) = rw (found .1) at (get-fit kid (records s) (sound-stored s o is-sound .table .fit)) in
-              omega (arith, fit-counter (getD (records s) i empty) h, clear-there .counter-left)
+              omega (arith, fit-counter (getD (records s) i empty) h, eqb-false (counterOf (getD (records s) i empty)) ceiling (not-true (eqb (counterOf (getD (records s) i empty)) ceiling) (clear-there .counter-left)))
 
           pub seal-done : Octets s → (m : List ℕ) → RowOf s i m → (n : ℕ) (x y : List ℕ) → n ≡ length (nextFrame sframe (decode m) kid metadata plaintext)
               → y ≡ nextFrame sframe (decode m) kid metadata plaintext ++ drop n room → x ≡ encodeAll (set (records s) i (advanced (getD (records s) i empty)))

@@ -28,12 +28,12 @@ ghost use Rattle.suites.specs.Aead.{encrypt};
 ghost use Rattle.key_record.specs.Layout.{decode};
 ghost use Rattle.key_record.specs.Record.{isEmpty, isSending, suiteOf, saltOf, keyOf, counterOf};
 ghost use Rattle.store.specs.Sframe.{sframe};
-ghost use Rattle.key_record.specs.inner.Rows.{Row, Numbered};
+ghost use Rattle.key_record.specs.inner.Rows.{Row, Numbered, counterLeft};
 ghost use Rattle.seal_frame.specs.Seal.{nextLength, causesOfSeal, nextFrame, seal};
 
 // Writes the header of a sending record's next frame to the front of head.
 fn write_next(row: &[u8], kid: Kid, head: &mut [u8]) -> usize
-    requires { ⌜ (Row (now row)) × (isSending (decode (now row)) ≡ true) × (maxHeader ≤ length (now head)) ⌝ }
+    requires { ⌜ (Row (now row)) × (isSending (decode (now row)) ≡ true) × (maxHeader ≤ length (now head)) × (counterLeft (decode (now row)) ≡ true) ⌝ }
     ensures { λ r. ⌜ (r ≡ length (header (kid .0) (counterOf (decode (now (row .entry)))))) × (r ≤ maxHeader) ⌝ }
     ensures { λ r. ⌜ now (head .exit) ≡ header (kid .0) (counterOf (decode (now (row .entry)))) ++ drop r (now (head .entry)) ⌝ }
 {
@@ -46,7 +46,7 @@ fn write_next(row: &[u8], kid: Kid, head: &mut [u8]) -> usize
 
 // The length of a sending record's next frame.
 fn next_length(row: &[u8], kid: Kid, plaintext: usize) -> usize
-    requires { ⌜ (Row (now row)) × (isSending (decode (now row)) ≡ true) × (plaintext ≤ maxPlaintext) ⌝ }
+    requires { ⌜ (Row (now row)) × (isSending (decode (now row)) ≡ true) × (plaintext ≤ maxPlaintext) × (counterLeft (decode (now row)) ≡ true) ⌝ }
     ensures { λ r. ⌜ r ≡ nextLength (decode (now (row .entry))) (kid .0) plaintext ⌝ }
 {
     let mut head = [0u8; MAX_HEADER];
@@ -84,7 +84,7 @@ fn encrypt_next(
     plaintext: &[u8],
     out: &mut [u8],
 )
-    requires { ⌜ (Row (now row)) × (isSending (decode (now row)) ≡ true) × (Numbered suite (suiteOf (decode (now row)))) ⌝ }
+    requires { ⌜ (Row (now row)) × (isSending (decode (now row)) ≡ true) × (Numbered suite (suiteOf (decode (now row)))) × (counterLeft (decode (now row)) ≡ true) ⌝ }
     requires { ⌜ (length (now head) ≤ maxHeader) × (length (now metadata) ≤ maxMetadata) × (length (now plaintext) ≤ maxPlaintext) ⌝ }
     requires { ⌜ length (now out) ≡ length (now plaintext) + Nt suite ⌝ }
     ensures { λ _. ⌜ now (out .exit) ≡ encrypt suite (keyOf (decode (now (row .entry)))) (nonce (saltOf (decode (now (row .entry)))) (counterOf (decode (now (row .entry))))) (now (head .entry) ++ now (metadata .entry)) (now (plaintext .entry)) ⌝ }

@@ -4,9 +4,10 @@
 //! |---|---|
 //! | 0 | 0 empty, 1 sending, 2 receiving, 3 retired |
 //! | 1 | suite |
-//! | 2-3 | zero |
+//! | 2 | sending or retired: 1 when the last counter has been used, else 0; receiving: 0 |
+//! | 3 | zero |
 //! | 4-11 | KID, big-endian |
-//! | 12-19 | next counter, big-endian |
+//! | 12-19 | next counter, big-endian; stays at 2^64 - 1 once that is used |
 //! | 20-31 | salt |
 //! | 32-79 | key, zero past Nk |
 
@@ -18,8 +19,8 @@ pub const RECORD: usize = 80;
 /// The longest key of a suite.
 const MAX_NK: usize = 48;
 
-/// The ceiling of a record's next counter.
-pub const MAX_COUNTER: u64 = 1 << 40;
+/// The last counter.
+pub const MAX_COUNTER: u64 = u64::MAX;
 
 /// What a non-empty record is for.
 #[derive(Clone, Copy, Debug, PartialEq, Eq)]
@@ -43,6 +44,8 @@ pub struct Record {
     pub kid: u64,
     /// The counter of the next frame that it seals.
     pub counter: u64,
+    /// The last counter has been used.
+    pub spent: bool,
     /// The salt.
     pub salt: [u8; NN],
     /// The key, zero past Nk.
@@ -65,6 +68,7 @@ impl Record {
             suite,
             kid,
             counter: 0,
+            spent: false,
             salt,
             key,
         }
@@ -77,6 +81,17 @@ impl Record {
             salt: [0; NN],
             key: [0; MAX_NK],
             ..self
+        }
+    }
+
+    /// The same record once it has sealed with its counter.
+    pub fn advanced(self) -> Self {
+        match self.counter.checked_add(1) {
+            Some(counter) => Record { counter, ..self },
+            None => Record {
+                spent: true,
+                ..self
+            },
         }
     }
 
@@ -99,17 +114,22 @@ impl Record {
             suite: Suite::from_number(bytes[1].into()).ok_or(Unsound)?,
             kid: u64::from_be_bytes(part(bytes, 4)),
             counter: u64::from_be_bytes(part(bytes, 12)),
+            spent: match bytes[2] {
+                0 => false,
+                1 => true,
+                _ => return Err(Unsound),
+            },
             salt: part(bytes, 20),
             key: part(bytes, 32),
         };
-        let sound = is_zero(&bytes[2..4]) && record.is_sound();
+        let sound = bytes[3] == 0 && record.is_sound();
         sound.then_some(Some(record)).ok_or(Unsound)
     }
 
     fn is_sound(&self) -> bool {
         let counter_allowed = match self.state {
-            State::Sending | State::Retired => self.counter <= MAX_COUNTER,
-            State::Receiving => self.counter == 0,
+            State::Sending | State::Retired => !self.spent || self.counter == MAX_COUNTER,
+            State::Receiving => !self.spent && self.counter == 0,
         };
         let key_allowed = match self.state {
             State::Sending | State::Receiving => is_zero(&self.key[self.suite.nk()..]),
@@ -123,6 +143,7 @@ impl Record {
         let mut bytes = [0; RECORD];
         bytes[0] = self.state as u8;
         bytes[1] = self.suite as u8;
+        bytes[2] = self.spent.into();
         bytes[4..12].copy_from_slice(&self.kid.to_be_bytes());
         bytes[12..20].copy_from_slice(&self.counter.to_be_bytes());
         bytes[20..32].copy_from_slice(&self.salt);

@@ -17,7 +17,7 @@ pub enum Refusal {
     KidUnknown = 6,
     /// The record's role does not allow the call.
     WrongRole = 7,
-    /// The next counter is the ceiling.
+    /// The last counter has been used.
     CounterSpent = 8,
     /// The plaintext or the metadata is too long.
     TooLong = 9,

@@ -5,7 +5,7 @@
 
 use crate::aead::Aead;
 use crate::header::{part, read_header, write_header};
-use crate::record::{Record, State, MAX_COUNTER, RECORD};
+use crate::record::{Record, State, RECORD};
 use crate::refusal::{Answer, Refusal};
 use crate::suites::{nonce, Suite};
 
@@ -119,7 +119,7 @@ pub fn seal_at(
     if record.state != State::Sending {
         return Err(Refusal::WrongRole);
     }
-    if record.counter == MAX_COUNTER {
+    if record.spent {
         return Err(Refusal::CounterSpent);
     }
     check_sizes(plaintext.len(), metadata)?;
@@ -136,9 +136,8 @@ pub fn seal_at(
     let tag = aead.encrypt(&nonce(&record.salt, record.counter), &aad, data);
     frame[tag_at..].copy_from_slice(&tag);
 
-    let mut record = record.clone();
-    record.counter += 1;
-    write_record(store, place, Some(record));
+    let advanced = record.clone().advanced();
+    write_record(store, place, Some(advanced));
     Ok(length)
 }
 

@@ -138,13 +138,27 @@ fn every_unsound_record_is_refused() {
     assert!(unsound(first, &[0]) && unsound(first, &[4]) && unsound(first, &[0x81]));
     assert!(unsound(first + 1, &[0]) && unsound(first + 1, &[6]) && unsound(first + 1, &[0x84]));
     assert!(unsound(first + 2, &[1]) && unsound(first + 3, &[1]));
+    assert!(unsound(second + 2, &[1]) && unsound(third + 2, &[1]));
     assert!(unsound(second + 4, &[0, 0, 0, 0, 0, 0, 0, 1]));
     assert!(unsound(third + 4, &[0, 0, 0, 0, 0, 0, 0, 1]));
-    for (record, highest) in [(first, MAX_COUNTER), (second, 0), (third, MAX_COUNTER)] {
-        assert!(!unsound(record + 12, &counter(highest)));
-        assert!(unsound(record + 12, &counter(highest + 1)));
-        assert!(unsound(record + 12, &counter(u64::MAX)));
+    for counted in [1, 1 << 40, MAX_COUNTER - 1, MAX_COUNTER] {
+        assert!(!unsound(first + 12, &counter(counted)) && !unsound(third + 12, &counter(counted)));
+        assert!(unsound(second + 12, &counter(counted)));
     }
+    // The byte of a spent counter: 1 behind the last one, and nowhere else.
+    let both = |record: usize, spent: u8, counted: u64| {
+        let mut bytes = sending[record + 2..record + 20].to_vec();
+        bytes[0] = spent;
+        bytes[10..].copy_from_slice(&counter(counted));
+        unsound(record + 2, &bytes)
+    };
+    for record in [first, third] {
+        assert!(!both(record, 1, MAX_COUNTER) && both(record, 1, MAX_COUNTER - 1));
+        assert!(
+            both(record, 1, 0) && both(record, 2, MAX_COUNTER) && both(record, 255, MAX_COUNTER)
+        );
+    }
+    assert!(both(second, 1, MAX_COUNTER) && both(second, 1, 0));
     for key_end in [first + 48, first + 79, second + 48, second + 79] {
         assert!(unsound(key_end, &[1]));
     }
@@ -334,6 +348,7 @@ fn seal_refuses_in_order() {
     refused(&store, RoomShort, call(1, 1_024, 0), 10);
     refused(&store, RoomShort, call(1, 1_024, 32_768), 32_768 + 10);
     set_counter(&mut store, MAX_COUNTER);
+    store[2] = 1;
     refused(&store, CounterSpent, call(1, 0, 32_769), 0);
 }
 
@@ -351,8 +366,13 @@ fn the_last_counter_seals_and_then_no_more() {
     for suite in SUITES {
         let mut store = filled(suite);
         set_counter(&mut store, MAX_COUNTER - 1);
+        let frame = seal_to_vec(&mut store, 1, b"", b"last but one");
+        assert_eq!(frame[..9], [0x1f, 255, 255, 255, 255, 255, 255, 255, 254]);
+        assert_eq!(store[2], 0);
         let frame = seal_to_vec(&mut store, 1, b"", b"last");
-        assert_eq!(frame[..6], [0x1c, 0xff, 0xff, 0xff, 0xff, 0xff]);
+        assert_eq!(frame[..9], [0x1f, 255, 255, 255, 255, 255, 255, 255, 255]);
+        assert_eq!(store[2], 1);
+        assert_eq!(store[12..20], [255; 8]);
         refused(
             &store,
             CounterSpent,

@@ -14,8 +14,8 @@ pub const MAX_BASE_KEY: usize = 64;
 pub const MAX_PLAINTEXT: usize = 32_768;
 /// The longest metadata.
 pub const MAX_METADATA: usize = 1_024;
-/// How many frames one key seals: its counters stay below this.
-pub const MAX_COUNTER: u64 = 1 << 40;
+/// The last counter: a key seals one frame with each counter from 0 up to it.
+pub const MAX_COUNTER: u64 = u64::MAX;
 /// The most steps of one walk of a base key.
 pub const MAX_STEPS: u64 = 64;
 /// The most bits of the step in a key number.

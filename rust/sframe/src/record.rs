@@ -38,6 +38,9 @@ pub struct Record {
     pub kid: Kid,
     /// The counter of the next frame that it seals; 0 where it is receiving.
     pub next: Ctr,
+    /// Whether that counter was the last one and has been used: the key seals
+    /// no more.
+    pub spent: bool,
 }
 
 /// The records of a sound store, in the order of their places; empty ones are
@@ -51,7 +54,7 @@ pub(crate) fn decode(store: &[u8]) -> Vec<Record> {
 }
 
 fn decode_one(place: usize, bytes: &[u8]) -> Option<Record> {
-    let (&[state, suite, _, _], rest) = bytes.split_first_chunk()?;
+    let (&[state, suite, spent, _], rest) = bytes.split_first_chunk()?;
     let (&kid, rest) = rest.split_first_chunk()?;
     let &next = rest.first_chunk()?;
     Some(Record {
@@ -65,5 +68,6 @@ fn decode_one(place: usize, bytes: &[u8]) -> Option<Record> {
         suite: Suite::from_number(suite.into())?,
         kid: Kid(u64::from_be_bytes(kid)),
         next: Ctr(u64::from_be_bytes(next)),
+        spent: spent == 1,
     })
 }

@@ -35,7 +35,7 @@ pub enum Refusal {
     /// The record is not for this: sealing needs a sending one, opening a
     /// receiving one, and a retired one cannot be removed.
     WrongRole = 7,
-    /// The key has sealed as many frames as a key may: 2^40.
+    /// The key has sealed with its last counter, 2^64 - 1.
     CounterSpent = 8,
     /// The plaintext exceeds 32,768 bytes, or the metadata 1,024.
     TooLong = 9,

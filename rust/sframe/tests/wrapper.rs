@@ -157,10 +157,13 @@ fn only_sound_stores_are_listed() {
     let (mut ward, _) = stores(Suite::ALL[0]);
     assert_eq!(StoreView::over(&ward).check(), Ok(()));
     ward[12..20].copy_from_slice(&MAX_COUNTER.to_be_bytes());
+    let first = |store: &[u8]| StoreView::over(store).records().unwrap()[0];
     assert_eq!(
-        StoreView::over(&ward).records().unwrap()[0].next,
-        Ctr(MAX_COUNTER)
+        (first(&ward).next, first(&ward).spent),
+        (Ctr(MAX_COUNTER), false)
     );
+    ward[2] = 1;
+    assert!(first(&ward).spent);
     ward[19] = 1;
     assert_eq!(StoreView::over(&ward).check(), Err(Refusal::StoreNotSound));
 }

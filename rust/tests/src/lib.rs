@@ -13,8 +13,8 @@ pub use call::{compare, Call, Outcome};
 pub use header::{compare_read_header, compare_write_header, compare_write_header_at, forms};
 pub use ratchet::{compare_kid, compare_walk};
 pub use stores::{
-    after, done, frame, frame_with, made, retire, set_counter, with_key, Key, ANY_KEY, COUNTER_AT,
-    RECEIVE_ONLY,
+    after, done, frame, frame_with, made, retire, set_counter, spend, with_key, Key, ANY_KEY,
+    COUNTER_AT, RECEIVE_ONLY, SPENT_AT,
 };
 
 /// The numbers of the refusals.

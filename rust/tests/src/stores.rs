@@ -12,6 +12,8 @@ use testkit::PATTERN;
 
 /// Where a record's next counter begins.
 pub const COUNTER_AT: usize = 12;
+/// Where a record has the byte of a spent counter.
+pub const SPENT_AT: usize = 2;
 
 /// A base key where any will do.
 pub const ANY_KEY: [u8; 16] = [7; 16];
@@ -92,9 +94,16 @@ pub fn retire(store: &[u8], key: &Key) -> Vec<u8> {
     after(&store, Call::Remove { kid: key.kid })
 }
 
-/// Writes the next counter of the record at `place`.
+/// Writes the next counter of the record at `place`, which has one left.
 pub fn set_counter(store: &mut [u8], place: usize, counter: u64) {
+    store[place * RECORD + SPENT_AT] = 0;
     store[place * RECORD + COUNTER_AT..][..8].copy_from_slice(&counter.to_be_bytes());
+}
+
+/// Leaves the record at `place` no counter.
+pub fn spend(store: &mut [u8], place: usize) {
+    set_counter(store, place, u64::MAX);
+    store[place * RECORD + SPENT_AT] = 1;
 }
 
 /// The frame that RFC 9605 defines, of any size, put together from the

@@ -3,7 +3,8 @@
 
 use comparison::number::*;
 use comparison::{
-    after, compare, done, frame, made, retire, set_counter, with_key, Call, Key, RECEIVE_ONLY,
+    after, compare, done, frame, made, retire, set_counter, with_key, Call, Key, COUNTER_AT,
+    RECEIVE_ONLY,
 };
 use reference::suites::SUITES;
 use sframe::{Role, MAX_COUNTER, MAX_METADATA, MAX_PLAINTEXT, MAX_RECORDS, MIN_BASE_KEY, RECORD};
@@ -45,8 +46,8 @@ fn the_last_counter_seals_and_then_none() {
     for suite in SUITES {
         let key = Key::any(suite, KID);
         let mut store = sender(&key);
-        set_counter(&mut store, 0, MAX_COUNTER - 2);
-        for ctr in [MAX_COUNTER - 2, MAX_COUNTER - 1] {
+        set_counter(&mut store, 0, MAX_COUNTER - 1);
+        for ctr in [MAX_COUNTER - 1, MAX_COUNTER] {
             let sealed = done(&store, seal(b"m", b"picture"));
             assert_eq!(sealed.result(), frame(&key, ctr, b"m", b"picture"));
             let opening = Call::Open {
@@ -63,8 +64,51 @@ fn the_last_counter_seals_and_then_none() {
                 COUNTER_SPENT
             );
         }
-        // A counter that is used up keeps no one from removing the key.
-        after(&store, Call::Remove { kid: KID });
+        // A counter that is used up keeps no one from removing the key; what is
+        // kept of it says so still.
+        let left = after(&store, Call::Remove { kid: KID });
+        assert_eq!(left[..3], [3, suite.number() as u8, 1]);
+        assert_eq!(left[COUNTER_AT..][..8], [0xff; 8]);
+    }
+}
+
+/// A key that an older layer would have called spent goes on, since 2^40 was
+/// never used.
+#[test]
+fn a_counter_of_2_to_the_40_goes_on() {
+    for suite in SUITES {
+        let key = Key::any(suite, KID);
+        let mut store = sender(&key);
+        set_counter(&mut store, 0, 1 << 40);
+        for ctr in [1 << 40, (1 << 40) + 1] {
+            let sealed = done(&store, seal(b"m", b"picture"));
+            assert_eq!(sealed.result(), frame(&key, ctr, b"m", b"picture"));
+            store = sealed.store;
+        }
+    }
+}
+
+/// Both numbers in eight bytes: the longest header is sealed, in a room that
+/// just holds the frame and in none that is shorter.
+#[test]
+fn headers_of_17_bytes_are_sealed() {
+    for suite in SUITES {
+        let key = Key::any(suite, u64::MAX);
+        let mut store = sender(&key);
+        set_counter(&mut store, 0, MAX_COUNTER);
+        let enough = 17 + 7 + suite.nt();
+        let seal = |room| Call::Seal {
+            kid: u64::MAX,
+            metadata: b"m",
+            plaintext: b"picture",
+            offset: 0,
+            room,
+        };
+        assert_eq!(compare(&store, seal(enough - 1)).number, ROOM_SHORT);
+        let sealed = done(&store, seal(enough));
+        assert_eq!(sealed.length, enough);
+        assert_eq!(sealed.result()[..17], [0xff; 17]);
+        assert_eq!(sealed.result(), frame(&key, MAX_COUNTER, b"m", b"picture"));
     }
 }
 
@@ -73,7 +117,7 @@ fn the_last_counter_seals_and_then_none() {
 fn any_counter_opens() {
     for suite in SUITES {
         let key = Key::any(suite, u64::MAX);
-        for ctr in [0, 7, 8, 255, 256, MAX_COUNTER - 1, MAX_COUNTER, u64::MAX] {
+        for ctr in [0, 7, 8, 255, 256, 1 << 40, MAX_COUNTER - 1, MAX_COUNTER] {
             let opening = Call::Open {
                 frame: &frame(&key, ctr, b"", b"picture"),
                 metadata: b"",
@@ -262,7 +306,7 @@ fn the_life_of_a_stored_sender_of_suite_3() {
     let key = Key::any(RECEIVE_ONLY, KID);
     let receiver = receiver(&key);
     let mut store = sender(&key);
-    for counter in [0, 1, 7, 8, MAX_COUNTER - 1] {
+    for counter in [0, 1, 7, 8, MAX_COUNTER - 1, MAX_COUNTER] {
         set_counter(&mut store, 0, counter);
         let sealed = done(&store, seal(b"", b""));
         assert_eq!(sealed.result(), frame(&key, counter, b"", b""));

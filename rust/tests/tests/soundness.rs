@@ -3,7 +3,8 @@
 
 use comparison::number::*;
 use comparison::{
-    compare, done, frame, made, retire, set_counter, with_key, Call, Key, ANY_KEY, COUNTER_AT,
+    compare, done, frame, made, retire, set_counter, spend, with_key, Call, Key, ANY_KEY,
+    COUNTER_AT, SPENT_AT,
 };
 use reference::suites::{Suite, SUITES};
 use sframe::{Role, MAX_COUNTER, RECORD};
@@ -154,10 +155,8 @@ fn suite_byte() {
 fn bytes_that_are_zero() {
     for case in Case::each() {
         for place in 0..RECORDS {
-            for at in [2, 3] {
-                for value in [1, 0x7f, 0x80, 0xff] {
-                    case.unsound(place, at, &[value]);
-                }
+            for value in [1, 0x7f, 0x80, 0xff] {
+                case.unsound(place, 3, &[value]);
             }
         }
     }
@@ -166,27 +165,49 @@ fn bytes_that_are_zero() {
 #[test]
 fn counters() {
     for case in Case::each() {
-        for counter in [MAX_COUNTER + 1, MAX_COUNTER << 1, 1 << 63, u64::MAX] {
-            for place in [SENDING, RETIRED, RECEIVING] {
-                case.unsound(place, COUNTER_AT, &counter.to_be_bytes());
-            }
-        }
-        for counter in [1, 255, 256, MAX_COUNTER - 1, MAX_COUNTER] {
+        for counter in [1, 255, 256, 1 << 40, MAX_COUNTER - 1, MAX_COUNTER] {
             case.unsound(RECEIVING, COUNTER_AT, &counter.to_be_bytes());
         }
-        for counter in [0, 1, MAX_COUNTER - 1] {
+        for counter in [0, 1, 1 << 40, MAX_COUNTER - 1, MAX_COUNTER] {
             case.check(SENDING, COUNTER_AT, &counter.to_be_bytes(), DONE);
-        }
-        for counter in [0, 1, MAX_COUNTER] {
             case.check(RETIRED, COUNTER_AT, &counter.to_be_bytes(), DONE);
         }
-        // At the ceiling itself a sending record is sound, but seals no more.
+        // Once the last counter is used a sending record is sound, but seals no more.
         let mut store = case.store.clone();
-        set_counter(&mut store, SENDING, MAX_COUNTER);
+        spend(&mut store, SENDING);
         for call in calls(&case.frame) {
             let sealing = matches!(call, Call::Seal { .. });
             let number = if sealing { COUNTER_SPENT } else { DONE };
             assert_eq!(compare(&store, call).number, number);
+        }
+    }
+}
+
+/// Byte 2 says whether the last counter has been used.
+#[test]
+fn spent_byte() {
+    for case in Case::each() {
+        for place in 0..RECORDS {
+            for value in 1..=u8::MAX {
+                case.unsound(place, SPENT_AT, &[value]);
+            }
+        }
+        for place in [SENDING, RETIRED] {
+            for counter in [0, 1, 1 << 40, MAX_COUNTER - 1] {
+                let mut store = case.store.clone();
+                set_counter(&mut store, place, counter);
+                store[place * RECORD + SPENT_AT] = 1;
+                for call in calls(&case.frame) {
+                    assert_eq!(compare(&store, call).number, STORE_NOT_SOUND);
+                }
+            }
+            for spent in 0..=u8::MAX {
+                let mut store = case.store.clone();
+                set_counter(&mut store, place, MAX_COUNTER);
+                store[place * RECORD + SPENT_AT] = spent;
+                let number = compare(&store, Call::Remove { kid: KIDS[1] }).number;
+                assert_eq!(number == DONE, spent < 2, "byte 2 is {spent}");
+            }
         }
     }
 }

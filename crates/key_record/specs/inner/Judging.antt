@@ -1,13 +1,13 @@
 -- Cited by inner contracts alone: what the bytes of one record are tested for, step by step. That this amounts to obeying their row
 -- is proved.
 -- Assumes nothing.
-use mathlib.Core.Bool.{Bool}
+use mathlib.Core.Bool.{Bool, true}
 use mathlib.Core.List.{List, _∷_, _++_}
 use Prim.Native.Nat.{ℕ, _+_, _-_}
 use lib.Dec.{leb, eqb}
 use lib.ListN.{length, getD, take, drop, replicate}
 use Rattle.octets.specs.Octets.{number, pick, both}
-use Rattle.key_record.specs.Layout.{markAt, suiteAt, reservedAt, counterAt, saltAt, keyAt, sendingMark, receivingMark, retiredMark, row}
+use Rattle.key_record.specs.Layout.{markAt, suiteAt, spentAt, reservedAt, counterAt, saltAt, keyAt, sendingMark, receivingMark, retiredMark, row}
 use Rattle.key_record.specs.Record.{ceiling}
 use Rattle.key_record.specs.Suites.{isSuite, keySize}
 
@@ -15,18 +15,24 @@ use Rattle.key_record.specs.Suites.{isSuite, keySize}
 unfoldable pub holdingMark : ℕ → Bool
 holdingMark mark = both (leb sendingMark mark) (leb mark retiredMark)
 
--- The highest next counter by mark.
-unfoldable pub counterLimit : ℕ → ℕ
-counterLimit mark = pick (eqb mark receivingMark) 0 ceiling
+-- The last counter.
+abbrev pub lastCounter : ℕ
+lastCounter = ceiling - 1
+
+-- The two fields of a next counter, by mark: zero where a record is for receiving; else the spent byte is 0, or it is 1 and the
+-- other the last counter.
+unfoldable pub counterFits : (mark spent counter : ℕ) → Bool
+counterFits mark spent counter =
+    pick (eqb mark receivingMark) (both (eqb spent 0) (eqb counter 0)) (pick (eqb spent 0) true (both (eqb spent 1) (eqb counter lastCounter)))
 
 -- Where the zeros begin that end a record, by mark and suite.
 unfoldable pub zerosFrom : ℕ → ℕ → ℕ
 zerosFrom mark suite = pick (eqb mark retiredMark) saltAt (keyAt + keySize suite)
 
--- The suite is one, bytes 2 and 3 are zero, the next counter is not above its limit.
+-- The suite is one, the reserved byte is zero, the next counter's two fields fit.
 unfoldable pub fieldsFit : List ℕ → Bool
 fieldsFit l =
-    both (isSuite (getD l suiteAt 0)) (both (eqb (getD l reservedAt 0) 0) (both (eqb (getD l (reservedAt + 1) 0) 0) (leb (number 8 (drop counterAt l)) (counterLimit (getD l markAt 0)))))
+    both (isSuite (getD l suiteAt 0)) (both (eqb (getD l reservedAt 0) 0) (counterFits (getD l markAt 0) (getD l spentAt 0) (number 8 (drop counterAt l))))
 
 -- A new record's bytes: its counter is 0.
 abbrev pub newRow : ℕ → ℕ → ℕ → List ℕ → List ℕ → List ℕ

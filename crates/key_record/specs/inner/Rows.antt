@@ -1,16 +1,17 @@
 -- Cited by inner contracts alone: what the functions over one record's bytes answer and write, in decoded values.
 -- Assumes nothing.
 use mathlib.Core.Path.{_≡_}
-use mathlib.Core.Bool.{Bool, true, false}
+use mathlib.Core.Bool.{Bool, true, false, not}
 use mathlib.Core.List.{List}
 use Prim.Native.Nat.{ℕ}
+use lib.Dec.{eqb}
 use lib.ListN.{length}
 use Rattle.suites.specs.Suites as Suites
 use Rattle.suites.specs.Derivation.{sframeKey, sframeSalt}
 use Rattle.suites.specs.declared.sizes.Suite.{Suite}
 use Rattle.suites.specs.declared.sizes.Found.the-variants.{Known}
 use Rattle.key_record.specs.Layout.{recordSize, sendingMark, receivingMark, obeys}
-use Rattle.key_record.specs.Record.{KeyRecord, empty, sending, receiving, retired}
+use Rattle.key_record.specs.Record.{ceiling, KeyRecord, empty, sending, receiving, retired, counterOf}
 use Rattle.key_record.specs.declared.Kind.{Kind}
 use Rattle.key_record.specs.declared.Kind.the-variants.{Empty, Sender, Receiver, Retired}
 use Rattle.key_record.specs.declared.Role.{Role}
@@ -36,6 +37,10 @@ hasKey empty = false
 hasKey (sending r) = true
 hasKey (receiving r) = true
 hasKey (retired r) = false
+
+-- A counter is left.
+abbrev pub counterLeft : KeyRecord → Bool
+counterLeft r = not (eqb (counterOf r) ceiling)
 
 -- The mark of a new record.
 abbrev pub markFor : Role → ℕ

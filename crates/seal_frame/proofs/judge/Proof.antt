@@ -49,7 +49,7 @@ returns-3 c =
 next-length-requires : tie.Need-next-length-requires
 next-length-requires c κs =
     let at-else1 = to-else1-from-else3 c in
-    (at-else1 .before .before .before .pre .0, told-true _ _ (at-else1 .before .is-sending .ensures) (at-else1 .if1 .left), not-long _ _ (sym (c .before .too-long .ensures) ∙ c .if3 .left) .0)
+    (at-else1 .before .before .before .pre .0, told-true _ _ (at-else1 .before .is-sending .ensures) (at-else1 .if1 .left), not-long _ _ (sym (c .before .too-long .ensures) ∙ c .if3 .left) .0, told-true _ _ (c .before .before .before .counter-left .ensures) (c .before .before .if2 .left))
 
 returns-4 : tie.Need-returns-4
 returns-4 c =

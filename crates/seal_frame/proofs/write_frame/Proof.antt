@@ -49,7 +49,7 @@ suite-of-requires c κs =
 write-next-requires : tie.Need-write-next-requires
 write-next-requires c κs =
     let at-start = to-start-from-head c in
-    (at-start .pre .0, (clear _ _ _ _ _ (at-start .pre .1)) .sends, omega arith)
+    (at-start .pre .0, (clear _ _ _ _ _ (at-start .pre .1)) .sends, omega arith, (clear _ _ _ _ _ (at-start .pre .1)) .counter-left)
 
 add-end : tie.Need-add-end
 add-end c =
@@ -83,7 +83,7 @@ encrypt-next-requires c κs =
     let at-tag-size = to-tag-size at-copy in
     let at-suite-of = to-suite-of at-tag-size in
     let at-start = to-start-from-suite-of at-suite-of in
-    ((at-start .pre .0, (clear _ _ _ _ _ (at-start .pre .1)) .sends, at-suite-of .suite-of .ensures), ((front-most (decode (at-start .args .row .now)) (at-start .args .kid .0) (at-start .args .metadata .now) (at-start .args .plaintext .now) (at-start .args .room .now) (clear _ _ _ _ _ (at-start .pre .1)) _ (at-suite-of .suite-of .ensures) _ _ _ _ (at-tag-size .tag-size .ensures) (at-tag-size .before .before .write-next .ensures .0 .0) (at-tag-size .before .before .write-next .ensures .1) (at-tag-size .before .before .write-next .ensures .0 .1), (clear _ _ _ _ _ (at-start .pre .1)) .metadata-most, (clear _ _ _ _ _ (at-start .pre .1)) .plaintext-most), body-room (decode (at-start .args .row .now)) (at-start .args .kid .0) (at-start .args .metadata .now) (at-start .args .plaintext .now) (at-start .args .room .now) (clear _ _ _ _ _ (at-start .pre .1)) _ (at-suite-of .suite-of .ensures) _ _ _ _ (at-tag-size .tag-size .ensures) (at-tag-size .before .before .write-next .ensures .0 .0) (at-tag-size .before .before .write-next .ensures .1) _ _ refl (at-copy .copy .kept .0)))
+    ((at-start .pre .0, (clear _ _ _ _ _ (at-start .pre .1)) .sends, at-suite-of .suite-of .ensures, (clear _ _ _ _ _ (at-start .pre .1)) .counter-left), ((front-most (decode (at-start .args .row .now)) (at-start .args .kid .0) (at-start .args .metadata .now) (at-start .args .plaintext .now) (at-start .args .room .now) (clear _ _ _ _ _ (at-start .pre .1)) _ (at-suite-of .suite-of .ensures) _ _ _ _ (at-tag-size .tag-size .ensures) (at-tag-size .before .before .write-next .ensures .0 .0) (at-tag-size .before .before .write-next .ensures .1) (at-tag-size .before .before .write-next .ensures .0 .1), (clear _ _ _ _ _ (at-start .pre .1)) .metadata-most, (clear _ _ _ _ _ (at-start .pre .1)) .plaintext-most), body-room (decode (at-start .args .row .now)) (at-start .args .kid .0) (at-start .args .metadata .now) (at-start .args .plaintext .now) (at-start .args .room .now) (clear _ _ _ _ _ (at-start .pre .1)) _ (at-suite-of .suite-of .ensures) _ _ _ _ (at-tag-size .tag-size .ensures) (at-tag-size .before .before .write-next .ensures .0 .0) (at-tag-size .before .before .write-next .ensures .1) _ _ refl (at-copy .copy .kept .0)))
 
 returns : tie.Need-returns
 returns c =

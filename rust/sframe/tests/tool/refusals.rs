@@ -133,7 +133,7 @@ fn unknown_numbers_and_roles() {
 fn the_last_counter() {
     let folder = folder("refused-8");
     let mut store = folder.read("ward");
-    store[12..20].copy_from_slice(&((1_u64 << 40) - 1).to_be_bytes());
+    store[12..20].copy_from_slice(&u64::MAX.to_be_bytes());
     folder.write("ward", &store);
     folder.done("seal ward --kid 200 --in picture --out frame");
     assert_eq!(folder.done("open doctor --in frame"), b"a picture");
@@ -142,6 +142,8 @@ fn the_last_counter() {
         "seal ward --kid 200 --in picture",
         Refusal::CounterSpent,
     );
+    let listed = String::from_utf8(folder.done("list ward")).unwrap();
+    assert!(listed.contains("none left"), "{listed}");
 }
 
 #[test]

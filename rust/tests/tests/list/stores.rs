@@ -26,13 +26,15 @@ fn fill_record(generator: &mut Generator, place: usize, record: &mut [u8]) {
     let kid = generator.any_width() & !0x3f | place as u64;
     record[4..12].copy_from_slice(&kid.to_be_bytes());
     if state != 2 {
-        let counter = match generator.up_to(5) {
-            0 => MAX_COUNTER,
-            1 => MAX_COUNTER - 1,
-            2 => MAX_COUNTER - 2,
-            3 => 0,
-            _ => generator.any_width() >> 24,
+        let (spent, counter) = match generator.up_to(6) {
+            0 => (1, MAX_COUNTER),
+            1 => (0, MAX_COUNTER),
+            2 => (0, MAX_COUNTER - 1),
+            3 => (0, MAX_COUNTER - 2),
+            4 => (0, 0),
+            _ => (0, generator.any_width()),
         };
+        record[2] = spent;
         record[12..20].copy_from_slice(&counter.to_be_bytes());
     }
     if state != 3 {

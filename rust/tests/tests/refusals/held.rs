@@ -1,8 +1,8 @@
 //! Stores that hold one key number in one way or another.
 
-use comparison::{made, retire, set_counter, with_key, Key};
+use comparison::{made, retire, spend, with_key, Key};
 use reference::suites::Suite;
-use sframe::{Role, MAX_COUNTER, RECORD};
+use sframe::{Role, RECORD};
 
 /// The key number that the calls are about.
 pub const KID: u64 = 200;
@@ -42,7 +42,7 @@ pub fn store(suite: Suite, held: Held, records: usize) -> Vec<u8> {
         Held::Retired | Held::RetiredSpent => retire(&made, &key),
     };
     if matches!(held, Held::Spent | Held::RetiredSpent) {
-        set_counter(&mut store, 0, MAX_COUNTER);
+        spend(&mut store, 0);
     }
     store
 }

@@ -10,6 +10,7 @@ const SUITE: Suite = Suite::Aes128GcmSha256_128;
 const SHORT_TAGS: Suite = Suite::Aes128CtrHmacSha256_32;
 
 /// Where a record keeps its next counter.
+const SPENT_AT: usize = 2;
 const COUNTER_AT: usize = 12;
 
 pub fn show() -> Result<(), Refusal> {
@@ -68,9 +69,13 @@ fn of_sealing(ward: &mut [u8], doctor: &[u8]) {
     );
 
     let mut spent = ward.to_vec();
+    spent[SPENT_AT] = 1;
     spent[COUNTER_AT..COUNTER_AT + 8].copy_from_slice(&MAX_COUNTER.to_be_bytes());
     let answer = Store::over(&mut spent).seal(KID, Metadata::NONE, b"", &mut room);
-    print(refusal(answer), "a key seals that has sealed 2^40 frames");
+    print(
+        refusal(answer),
+        "a key seals that has used its last counter, 2^64 - 1",
+    );
 
     let mut ward = Store::over(ward);
     let picture = vec![0; MAX_PLAINTEXT + 1];

@@ -138,17 +138,21 @@ fn list(disk: &mut impl Disk, path: &Path, out: &mut impl Write) -> Result<(), F
     let bytes = StoreFile::at(path)?.read(disk)?;
     let records = StoreView::over(&bytes).records()?;
     let mut text = format!(
-        "{:<9}  {:<28}  {:>20}  {:>13}\n",
+        "{:<9}  {:<28}  {:>20}  {:>20}\n",
         "role", "suite", "key number", "next counter"
     );
     for record in &records {
+        let next = match record.spent {
+            true => "none left".into(),
+            false => record.next.0.to_string(),
+        };
         text += &format!(
-            "{:<9}  {} {:<26}  {:>20}  {:>13}\n",
+            "{:<9}  {} {:<26}  {:>20}  {:>20}\n",
             record.state,
             record.suite.number(),
             record.suite,
             record.kid.0,
-            record.next.0
+            next
         );
     }
     let total = bytes.len() / RECORD;
