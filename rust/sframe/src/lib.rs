@@ -50,3 +50,8 @@ pub use refusal::Refusal;
 pub use store::{Role, Store};
 pub use suite::Suite;
 pub use view::StoreView;
+
+// The examples of the front page are compiled.
+#[cfg(doctest)]
+#[doc = include_str!("../../../README.md")]
+struct FrontPage;

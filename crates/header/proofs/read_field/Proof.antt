@@ -10,8 +10,11 @@ returns c = short-form _ _ _ (c .if1 .taken)
 returns-2 : tie.Need-returns-2
 returns-2 c = cut _ _ _ (c .before .if1 .left) (omega arith)
 
+read-be-requires : tie.Need-read-be-requires
+read-be-requires c κs = search needs
+
 returns-3 : tie.Need-returns-3
 returns-3 c = whole-field _ _ _ _ (c .before .before .if1 .left) (c .before .if2 .left) (c .read-be .ensures .0)
 
 pub read-field-spec : {M : Type 1} → statement M
-read-field-spec = tie.close (tie.spec returns (λ c. search needs) returns-2 (λ c κs. search needs) returns-3)
+read-field-spec = tie.close (tie.spec returns (λ c. search needs) returns-2 read-be-requires returns-3)
