@@ -33,6 +33,7 @@ pub enum Command {
         store: PathBuf,
         kid: Kid,
         streams: Streams,
+        log: Option<PathBuf>,
     },
     Open {
         store: PathBuf,
@@ -106,6 +107,7 @@ impl Command {
                 store: words.store()?,
                 kid: Kid(words.number("--kid")?),
                 streams: words.streams()?,
+                log: words.log()?,
             },
             "open" => Command::Open {
                 store: words.store()?,
@@ -126,7 +128,7 @@ impl Command {
 }
 
 /// The options that take a value, and those that take none.
-const VALUES: [&str; 12] = [
+const VALUES: [&str; 13] = [
     "--keys",
     "--kid",
     "--suite",
@@ -134,6 +136,7 @@ const VALUES: [&str; 12] = [
     "--in",
     "--out",
     "--metadata",
+    "--log",
     "--ctr",
     "--steps",
     "--generation",
@@ -237,6 +240,14 @@ impl Words {
             return Err(Failure::usage(text));
         }
         Ok(streams)
+    }
+
+    fn log(&mut self) -> Result<Option<PathBuf>, Failure> {
+        match self.value("--log").map(Place::from) {
+            None => Ok(None),
+            Some(Place::File(path)) => Ok(Some(path)),
+            Some(Place::Standard) => Err(Failure::usage("--log must be a file")),
+        }
     }
 
     fn header(&mut self) -> Result<Command, Failure> {

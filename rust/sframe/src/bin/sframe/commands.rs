@@ -6,6 +6,7 @@ use crate::failure::Failure;
 use crate::help::HELP;
 use crate::hex;
 use crate::input::Place;
+use crate::log_file::LogFile;
 use crate::store_file::StoreFile;
 use sframe::{
     frame_room, ratchet_kid, raw, read_header, write_header, Ctr, Kid, Metadata, Refusal, Role,
@@ -44,7 +45,14 @@ pub fn run(command: Command, disk: &mut impl Disk, out: &mut impl Write) -> Resu
             store,
             kid,
             streams,
-        } => seal(disk, &store, kid, &streams, out),
+            log,
+        } => {
+            let frame = match log {
+                None => seal(disk, &store, kid, &streams)?,
+                Some(log) => seal_logged(disk, &store, kid, &streams, &log)?,
+            };
+            give_out(&frame, &streams, out)
+        }
         Command::Open { store, streams } => open(disk, &store, &streams, out),
         Command::WriteHeader { kid, ctr } => {
             let mut header = [0; MAX_HEADER];
@@ -152,25 +160,50 @@ fn list(disk: &mut impl Disk, path: &Path, out: &mut impl Write) -> Result<(), F
     print(out, &text)
 }
 
-/// The store with the new counter is on the disk before the frame leaves.
+/// Seals a frame. The store with the new counter is on the disk before the
+/// frame is answered.
 fn seal(
     disk: &mut impl Disk,
     path: &Path,
     kid: Kid,
     streams: &Streams,
-    out: &mut impl Write,
-) -> Result<(), Failure> {
+) -> Result<Vec<u8>, Failure> {
     spare_store(path, &streams.output)?;
     let plaintext = streams.input.read(MAX_PLAINTEXT)?;
     let metadata = read_metadata(streams)?;
-    let frame = change(disk, path, |bytes| {
+    change(disk, path, |bytes| {
         Store::over(bytes).seal_to_vec(kid, Metadata(&metadata), &plaintext)
-    })?;
-    if streams.hex {
-        let text = format!("{}\n", hex::encode(&frame));
-        return streams.output.write(text.as_bytes(), out);
+    })
+}
+
+/// Seals a frame and logs its pair. A log that cannot take it stops the run
+/// before a counter is used. Then comes the store with the new counter, then
+/// the log, and only then is the frame answered: a frame that is given out
+/// stands in the log once, and a pair in the log was never another frame's.
+fn seal_logged(
+    disk: &mut impl Disk,
+    path: &Path,
+    kid: Kid,
+    streams: &Streams,
+    log: &Path,
+) -> Result<Vec<u8>, Failure> {
+    let log = LogFile::at(log)?;
+    spare_log(&log, path, &streams.output)?;
+    let _lock = log.lock()?;
+    let pairs = log.read(disk)?;
+    let frame = seal(disk, path, kid, streams)?;
+    log.append(disk, pairs, kid, read_header(&frame)?.ctr)?;
+    Ok(frame)
+}
+
+fn give_out(frame: &[u8], streams: &Streams, out: &mut impl Write) -> Result<(), Failure> {
+    match streams.hex {
+        true => {
+            let text = format!("{}\n", hex::encode(frame));
+            streams.output.write(text.as_bytes(), out)
+        }
+        false => streams.output.write(frame, out),
     }
-    streams.output.write(&frame, out)
 }
 
 /// Opening changes nothing, so it needs no lock: the file is always whole.
@@ -227,6 +260,18 @@ fn spare_store(store: &Path, output: &Place) -> Result<(), Failure> {
             Err(Failure::usage("--out is the store itself"))
         }
         _ => Ok(()),
+    }
+}
+
+/// Refuses a log that is the store, or that the frame would be written over.
+fn spare_log(log: &LogFile, store: &Path, output: &Place) -> Result<(), Failure> {
+    let over_log = match output {
+        Place::File(path) => log.is_at(path),
+        Place::Standard => false,
+    };
+    match over_log || log.is_at(store) {
+        true => Err(Failure::usage("--log is the store or --out")),
+        false => Ok(()),
     }
 }
 
