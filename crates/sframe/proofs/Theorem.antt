@@ -12,7 +12,7 @@ use Rattle.header.specs.Answers.{readKid}
 use Rattle.header.specs.Header.{readHeader}
 use Rattle.store.specs.Calls.{make}
 use Rattle.store.specs.Cipher.{Cipher}
-use Rattle.store.specs.Record.{ReceivingKey}
+use Rattle.key_record.specs.Record.{ReceivingKey}
 use Rattle.store.specs.Store.{sound}
 use Rattle.pair_log.specs.Report.{decimal, line, report}
 use Rattle.seal_frame.specs.Seal.{seal}
