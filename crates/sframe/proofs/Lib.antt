@@ -1,5 +1,6 @@
 mod Frames
 mod Ledger
+mod Logged
 pub mod Neighbours
 mod Never
 pub mod Opens

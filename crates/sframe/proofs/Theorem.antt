@@ -3,22 +3,27 @@
 -- Assumes nothing.
 use mathlib.Core.Path.{_≡_}
 use mathlib.Core.Bool.{true}
-use mathlib.Core.List.{List}
-use Prim.Native.Nat.{ℕ}
-use Rattle.octets.specs.Octets.{Octets}
+use mathlib.Core.List.{List, _++_}
+use Prim.Native.Nat.{ℕ, _≤_}
+use native.Mathlib.Omega.{arith}
+use lib.ListN.{length}
+use Rattle.octets.specs.Octets.{Octets, ascii}
 use Rattle.header.specs.Answers.{readKid}
 use Rattle.header.specs.Header.{readHeader}
 use Rattle.store.specs.Calls.{make}
 use Rattle.store.specs.Cipher.{Cipher}
 use Rattle.key_record.specs.Record.{ReceivingKey}
 use Rattle.store.specs.Store.{sound}
+use Rattle.pair_log.specs.Report.{decimal, line, report}
 use Rattle.seal_frame.specs.Seal.{seal}
 use Rattle.open_frame.specs.Open.{opening}
 use Rattle.sframe.specs.Promises.{Kept, NeverAgain, NoneBarred, Openable, OpensExactly, Alike, SameAnswer, Unchanged}
 use Rattle.store.specs.Sframe.{sframe}
-use Rattle.sframe.specs.History.{Call, Typed, AllTyped, outcome, run, start}
+use Rattle.sframe.specs.History.{Call, Sealing, Typed, AllTyped, outcome, run, start}
+use Rattle.sframe.specs.Logs.{sealings, Taken, logOf}
 use Rattle.sframe.proofs.Frames.{kept}
 use Rattle.sframe.proofs.Ledger.{run-keeps, start-keeps}
+use Rattle.sframe.proofs.Logged.{sealings-apart, apart-taken, log-reported}
 use Rattle.sframe.proofs.Neighbours.{neighbours-seal, neighbours-open}
 use Rattle.sframe.proofs.Never.{Fresh, run-fresh, fresh-never, fresh-allowed}
 use Rattle.sframe.proofs.Opens.{opens-exactly}
@@ -44,6 +49,14 @@ never-again s made calls typed = fresh-never (run sframe calls (start s) .log) (
 -- Over every such list, no key for sending is added with the suite of 4-byte tags.
 pub none-barred : (s : List ℕ) → make s .number ≡ 0 → (calls : List Call) → AllTyped calls → NoneBarred (run sframe calls (start s) .log)
 none-barred s made calls typed = fresh-allowed (run sframe calls (start s) .log) (all-fresh s made calls typed)
+
+-- At most 4,096 sealings of such a list, each taken once, in any order: the report of their log says that none is repeated.
+pub our-log : (s : List ℕ) → make s .number ≡ 0 → (calls : List Call) → AllTyped calls → (xs : List Sealing) → Taken (sealings (run sframe calls (start s) .log)) xs → length xs ≤ 4096
+    → report (logOf xs) ≡ line (ascii "records " ++ decimal (length xs)) ++ line (ascii "repeated 0")
+our-log s made calls typed xs taken h =
+    let i = run-keeps sframe suites-laws calls (start s) typed (start-keeps sframe suites-laws s made) in
+    let a = sealings-apart sframe (run sframe calls (start s) .log) (i .account .frames) in
+    log-reported xs (apart-taken (sealings (run sframe calls (start s) .log)) xs taken a) (omega arith)
 
 -- Opening succeeds exactly when the frame is the RFC's encryption of some plaintext, and yields that plaintext.
 pub opening-exact : (s metadata bytes room : List ℕ) (r : ReceivingKey) (ctr n : ℕ) → Openable sframe s metadata bytes room r ctr n → OpensExactly sframe s metadata bytes room r ctr n

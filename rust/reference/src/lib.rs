@@ -15,6 +15,7 @@ pub mod ghash;
 pub mod header;
 pub mod hkdf;
 pub mod hmac;
+pub mod log;
 pub mod ratchet;
 pub mod record;
 pub mod refusal;

@@ -65,6 +65,50 @@ fn results_at_an_offset() {
     assert_eq!(header, b"000080c8\n");
 }
 
+/// Each sealed frame's pair is put behind the others.
+#[test]
+fn a_log_of_sealings() {
+    let folder = Folder::with_stores("log", 4);
+    folder.done("add ward --sending --kid 7 --suite 1 --key key");
+    folder.write("picture", b"a picture");
+    let pairs = [(200, 0), (200, 1), (7, 0), (200, 2)];
+    for (place, (kid, _)) in pairs.into_iter().enumerate() {
+        folder.done(&format!(
+            "seal ward --kid {kid} --in picture --out frame --offset {place} --log log"
+        ));
+    }
+    let want: Vec<u8> = pairs
+        .into_iter()
+        .flat_map(|(kid, ctr): (u64, u64)| [kid.to_be_bytes(), ctr.to_be_bytes()])
+        .flatten()
+        .collect();
+    assert_eq!(folder.read("log"), want);
+}
+
+/// A refused sealing, and one whose log cannot be written, log nothing and use
+/// up no counter.
+#[test]
+fn nothing_is_logged() {
+    let folder = Folder::with_stores("unlogged", 4);
+    folder.write("picture", b"a picture");
+    let failed = |line: &str, status: i32| {
+        assert_eq!(folder.run(line).status.code(), Some(status), "{line}");
+    };
+    failed("seal ward --kid 9 --in picture --log log", 6);
+    assert!(!folder.path("log").exists());
+    folder.write("cut", &[0; 17]);
+    folder.write("full", &[0; 65_536]);
+    for log in ["cut", "full", "missing/log"] {
+        failed(&format!("seal ward --kid 200 --in picture --log {log}"), 74);
+    }
+    for line in ["--log ward", "--log -", "--log same --out same"] {
+        folder.write("same", b"");
+        failed(&format!("seal ward --kid 200 --in picture {line}"), 64);
+    }
+    folder.done("seal ward --kid 200 --in picture --out frame --log log");
+    assert_eq!(folder.read("log")[8..], [0; 8]);
+}
+
 /// Raw or in hex, from a file or from standard input, it is the same key.
 #[test]
 fn ways_to_give_a_key() {

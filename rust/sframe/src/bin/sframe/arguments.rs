@@ -34,6 +34,7 @@ pub enum Command {
         kid: Kid,
         offset: u64,
         streams: Streams,
+        log: Option<PathBuf>,
     },
     Open {
         store: PathBuf,
@@ -109,6 +110,7 @@ impl Command {
                 kid: Kid(words.number("--kid")?),
                 offset: words.offset()?,
                 streams: words.streams()?,
+                log: words.log()?,
             },
             "open" => Command::Open {
                 store: words.store()?,
@@ -129,7 +131,7 @@ impl Command {
 }
 
 /// The options that take a value, and those that take none.
-const VALUES: [&str; 13] = [
+const VALUES: [&str; 14] = [
     "--keys",
     "--kid",
     "--suite",
@@ -137,6 +139,7 @@ const VALUES: [&str; 13] = [
     "--in",
     "--out",
     "--metadata",
+    "--log",
     "--ctr",
     "--steps",
     "--generation",
@@ -251,6 +254,14 @@ impl Words {
             return Err(Failure::usage(text));
         }
         Ok(streams)
+    }
+
+    fn log(&mut self) -> Result<Option<PathBuf>, Failure> {
+        match self.value("--log").map(Place::from) {
+            None => Ok(None),
+            Some(Place::File(path)) => Ok(Some(path)),
+            Some(Place::Standard) => Err(Failure::usage("--log must be a file")),
+        }
     }
 
     fn header(&mut self) -> Result<Command, Failure> {

@@ -6,6 +6,7 @@ use crate::failure::Failure;
 use crate::help::HELP;
 use crate::hex;
 use crate::input::Place;
+use crate::log_file::LogFile;
 use crate::store_file::StoreFile;
 use sframe::{
     frame_room, ratchet_kid, raw, read_header, write_header_at, Ctr, Kid, Metadata, Refusal, Role,
@@ -48,7 +49,14 @@ pub fn run(command: Command, disk: &mut impl Disk, out: &mut impl Write) -> Resu
             kid,
             offset,
             streams,
-        } => seal(disk, &store, kid, offset, &streams, out),
+            log,
+        } => {
+            let packet = match log {
+                None => seal(disk, &store, kid, offset, &streams)?,
+                Some(log) => seal_logged(disk, &store, kid, offset, &streams, &log)?,
+            };
+            give_out(&packet.bytes, &streams, out)
+        }
         Command::Open { store, streams } => open(disk, &store, &streams, out),
         Command::WriteHeader { kid, ctr, offset } => {
             let (mut room, offset) = room_at(offset, MAX_HEADER);
@@ -169,15 +177,22 @@ fn room_at(offset: u64, longest: usize) -> (Vec<u8>, usize) {
     }
 }
 
-/// The store with the new counter is on the disk before the frame leaves.
+/// A frame behind zero bytes.
+struct Packet {
+    bytes: Vec<u8>,
+    /// Where the frame begins.
+    offset: usize,
+}
+
+/// Seals a frame. The store with the new counter is on the disk before the
+/// frame is answered.
 fn seal(
     disk: &mut impl Disk,
     path: &Path,
     kid: Kid,
     offset: u64,
     streams: &Streams,
-    out: &mut impl Write,
-) -> Result<(), Failure> {
+) -> Result<Packet, Failure> {
     spare_store(path, &streams.output)?;
     let plaintext = streams.input.read(MAX_PLAINTEXT)?;
     let metadata = read_metadata(streams)?;
@@ -185,12 +200,43 @@ fn seal(
     let length = change(disk, path, |bytes| {
         Store::over(bytes).seal_at(kid, Metadata(&metadata), &plaintext, &mut room, offset)
     })?;
-    let written = &room[..offset + length];
-    if streams.hex {
-        let text = format!("{}\n", hex::encode(written));
-        return streams.output.write(text.as_bytes(), out);
+    room.truncate(offset + length);
+    Ok(Packet {
+        bytes: room,
+        offset,
+    })
+}
+
+/// Seals a frame and logs its pair. A log that cannot take it stops the run
+/// before a counter is used. Then comes the store with the new counter, then
+/// the log, and only then is the frame answered: a frame that is given out
+/// stands in the log once, and a pair in the log was never another frame's.
+fn seal_logged(
+    disk: &mut impl Disk,
+    path: &Path,
+    kid: Kid,
+    offset: u64,
+    streams: &Streams,
+    log: &Path,
+) -> Result<Packet, Failure> {
+    let log = LogFile::at(log)?;
+    spare_log(&log, path, &streams.output)?;
+    let _lock = log.lock()?;
+    let pairs = log.read(disk)?;
+    let packet = seal(disk, path, kid, offset, streams)?;
+    let frame = &packet.bytes[packet.offset..];
+    log.append(disk, pairs, kid, read_header(frame)?.ctr)?;
+    Ok(packet)
+}
+
+fn give_out(bytes: &[u8], streams: &Streams, out: &mut impl Write) -> Result<(), Failure> {
+    match streams.hex {
+        true => {
+            let text = format!("{}\n", hex::encode(bytes));
+            streams.output.write(text.as_bytes(), out)
+        }
+        false => streams.output.write(bytes, out),
     }
-    streams.output.write(written, out)
 }
 
 /// Opening changes nothing, so it needs no lock: the file is always whole.
@@ -247,6 +293,18 @@ fn spare_store(store: &Path, output: &Place) -> Result<(), Failure> {
             Err(Failure::usage("--out is the store itself"))
         }
         _ => Ok(()),
+    }
+}
+
+/// Refuses a log that is the store, or that the frame would be written over.
+fn spare_log(log: &LogFile, store: &Path, output: &Place) -> Result<(), Failure> {
+    let over_log = match output {
+        Place::File(path) => log.is_at(path),
+        Place::Standard => false,
+    };
+    match over_log || log.is_at(store) {
+        true => Err(Failure::usage("--log is the store or --out")),
+        false => Ok(()),
     }
 }
 

@@ -25,10 +25,13 @@ Each frame that is sealed uses up one counter of its key.
       Shows role, suite, number and next counter of each key; never the key.
 
   sframe seal STORE --kid K [--in FILE] [--out FILE] [--metadata FILE]
-              [--offset N] [--hex]
+              [--offset N] [--hex] [--log LOG]
       Seals a plaintext into a frame; with --hex the frame is written in hex.
       With --offset N zero bytes stand before it, up to 65536, for bytes of
       your own.
+      With --log its key number and counter, 8 bytes each, are put behind those
+      in LOG, before the frame is given out. log_check < LOG shows repeats. A
+      log has at most 4096 records; a full one is refused.
 
   sframe open STORE [--in FILE] [--out FILE] [--metadata FILE] [--hex]
       Opens a frame; with --hex the frame is read in hex. Metadata must be what

@@ -7,6 +7,7 @@ mod failure;
 mod help;
 mod hex;
 mod input;
+mod log_file;
 mod store_file;
 #[cfg(test)]
 mod tests;

@@ -135,6 +135,8 @@ fn wrong_lines() {
         "list ward --kid 1",
         "seal ward",
         "seal ward --kid 1 --metadata -",
+        "seal ward --kid 1 --log -",
+        "open ward --log log",
         "open ward --kid 1",
         "header",
         "header --kid 1",

@@ -81,7 +81,44 @@ impl Setup {
                 metadata: None,
                 hex: false,
             },
+            log: None,
         }
+    }
+
+    fn log(&self) -> PathBuf {
+        self.folder.join("log")
+    }
+
+    fn seal_logged(&self) -> Command {
+        match self.seal() {
+            Command::Seal {
+                store,
+                kid,
+                offset,
+                streams,
+                ..
+            } => Command::Seal {
+                store,
+                kid,
+                offset,
+                streams,
+                log: Some(self.log()),
+            },
+            other => other,
+        }
+    }
+
+    /// The counters that the log on a disk has; none where there is no log.
+    fn logged(&self, disk: &MemoryDisk) -> Vec<u64> {
+        let log = disk.clone().read(&self.log(), 65_536).unwrap_or_default();
+        assert_eq!(log.len() % 16, 0);
+        let number = |bytes: &[u8]| u64::from_be_bytes(bytes.try_into().unwrap());
+        log.chunks(16)
+            .map(|record| {
+                assert_eq!(number(&record[..8]), KID.0);
+                number(&record[8..])
+            })
+            .collect()
     }
 
     fn run(&self, disk: &mut MemoryDisk, command: Command) -> Result<Vec<u8>, Failure> {
@@ -146,6 +183,40 @@ fn sealing_stopped_at_every_step() {
         }
     }
     assert!(old > 0 && new > 0);
+}
+
+/// Many runs that log, each stopped at another step: every frame that was given
+/// out stands in the log, and no pair stands there twice.
+#[test]
+fn many_stopped_runs_that_log() {
+    let setup = Setup::new("logged");
+    let mut disk = setup.disk.clone();
+    let mut given_out = vec![];
+    for run in 0..500 {
+        let mut stopped = disk.stopping_at(run * 7 % 23);
+        if let Ok(frame) = setup.run(&mut stopped, setup.seal_logged()) {
+            given_out.push(read_header(&frame).unwrap().ctr.0);
+        }
+        let (names, contents) = RESTARTS[run / 3 % 4];
+        disk = stopped.restarted(names, contents);
+    }
+    let logged = setup.logged(&disk);
+    assert!(given_out.len() > 50, "{} given out", given_out.len());
+    assert!(logged.is_sorted_by(|one, next| one < next));
+    assert!(given_out.iter().all(|counter| logged.contains(counter)));
+}
+
+/// A log that cannot take one more record costs no counter.
+#[test]
+fn a_log_that_is_full_or_cut() {
+    let setup = Setup::new("full");
+    for length in [65_536, 65_552, 8, 17] {
+        let mut disk = setup.disk.clone();
+        let mut file = disk.create(&setup.log()).unwrap();
+        disk.write(&mut file, &vec![0; length]).unwrap();
+        assert!(setup.run(&mut disk, setup.seal_logged()).is_err());
+        assert_eq!(setup.next(&disk), 0);
+    }
 }
 
 /// A run that fails, but is not stopped, leaves nothing beside the store.

@@ -1,0 +1,4 @@
+pub mod Repeats
+mod Gathering
+mod Writing
+pub mod Reports
