@@ -1,52 +1,28 @@
 -- Laws of the table of the rounds: how it is filled, and what a round makes of a state by it.
 -- Assumes nothing.
 use mathlib.Core.Path.{_≡_, refl, ap, sym, _∙_}
-use mathlib.Core.Bool.{Bool}
 use mathlib.Core.List.{List, [], _∷_}
 use Prim.Native.Nat.{ℕ, zero, suc, _+_, _*_, _-_, _/_, _%_, _^_, _≤_, _<_}
 use native.Mathlib.Nat.{add-zero}
 use native.Mathlib.Omega.{arith}
-use borrow.Author.Tests.{lt-ltb, le-ltb}
 use lib.Bits.{bitXor, xor-lt, xor-comm}
-use lib.Dec.{T, eqb, ltb, eqb→eq}
 use lib.ListN.{length, getD}
-use Rattle.octets.specs.Octets.{pick}
 use Rattle.octets.proofs.Bits.{xor-assoc}
-use Rattle.octets.proofs.Entries.{all, entry-rule}
 use Rattle.aes_tables.specs.Field.{mul, sBox}
+use Rattle.aes_round_table.specs.inner.RoundTable.{mixedFirst, twice, RoundTable}
 use Rattle.aes.specs.Aes.{word, byte, subWord, subBytes, shiftRows, mixColumn, mixColumns, addRoundKey}
-use Rattle.aes.specs.inner.Context.{share0, share1, share2, share3, twice, entryOf, Table}
+use Rattle.aes.specs.inner.Context.{share0, share1, share2, share3, Table}
 use Rattle.aes.proofs.Words.{twice-lt, thrice-lt, sBox-lt, word-lt, byte-0, byte-1, byte-2, byte-3, right-1, right-2, right-3, word-xor}
 
 -- ---- the table
 
--- What a context starts with: no words, then the table.
-unfoldable pub startOf : ℕ → ℕ
-startOf k = pick (ltb k 64) 0 (entryOf (k - 64))
-
-unfoldable pub right : ℕ → ℕ → Bool
-right k x = eqb x (startOf k)
-
-at-start : (l : List ℕ) → T (all right 0 l) → (k : ℕ) → k < length l → getD l k 0 ≡ startOf k
-unfolding right
-at-start l t k h = eqb→eq _ _ (entry-rule right l t k h)
-
-no-word : (k : ℕ) → k < 64 → startOf k ≡ 0
-unfolding startOf
-no-word k h = rw (lt-ltb k 64 h)
-
-start-entry : (x : ℕ) → startOf (64 + x) ≡ entryOf x
-unfolding startOf
-start-entry x =
-    let e : 64 + x - 64 ≡ x = omega arith in
-    rw (le-ltb (64 + x) 64 (omega arith), e)
-
-pub start-table : (l : List ℕ) → T (all right 0 l) → length l ≡ 320 → Table 256 l
-start-table l t e =
+-- What a context starts from has no words yet, and the table.
+pub start-table : (l : List ℕ) → RoundTable l → Table 256 l
+start-table l t =
     record {
-      sized = e;
-      words = λ i h. let z : getD l i 0 ≡ 0 = at-start l t i (omega arith) ∙ no-word i h in omega arith;
-      entry = λ x h. at-start l t (64 + x) (omega arith) ∙ start-entry x;
+      sized = t .sized;
+      words = λ i h. let z : getD l i 0 ≡ 0 = t .room i h in omega arith;
+      entry = t .entry;
     }
 
 -- ---- look-ups
@@ -84,29 +60,30 @@ module _ (w : ℕ) (h : w < 2 ^ 32) where
       rw e (omega arith)
 
 module _ (s : ℕ) (h : s < 256) where
-  share-lt : share0 s < 2 ^ 32
-  unfolding share0
+  share-lt : mixedFirst s < 2 ^ 32
+  unfolding mixedFirst word
   share-lt = word-lt (mul 2 s) s s (mul 3 s) (twice-lt s h) h h (thrice-lt s h)
 
-  pub look-0 : twice (share0 s) % 2 ^ 32 ≡ share0 s
-  look-0 = low-0 (share0 s) share-lt
+  pub look-0 : twice (mixedFirst s) % 2 ^ 32 ≡ share0 s
+  unfolding mixedFirst share0 word
+  look-0 = low-0 (mixedFirst s) share-lt
 
-  pub look-1 : twice (share0 s) / 0x100 % 2 ^ 32 ≡ share1 s
-  unfolding share0 share1
-  look-1 = low-1 (share0 s) share-lt ∙ right-1 (mul 2 s) s s (mul 3 s) (twice-lt s h) h h (thrice-lt s h)
+  pub look-1 : twice (mixedFirst s) / 0x100 % 2 ^ 32 ≡ share1 s
+  unfolding mixedFirst word share1
+  look-1 = low-1 (mixedFirst s) share-lt ∙ right-1 (mul 2 s) s s (mul 3 s) (twice-lt s h) h h (thrice-lt s h)
 
-  pub look-2 : twice (share0 s) / 0x10000 % 2 ^ 32 ≡ share2 s
-  unfolding share0 share2
-  look-2 = low-2 (share0 s) share-lt ∙ right-2 (mul 2 s) s s (mul 3 s) (twice-lt s h) h h (thrice-lt s h)
+  pub look-2 : twice (mixedFirst s) / 0x10000 % 2 ^ 32 ≡ share2 s
+  unfolding mixedFirst word share2
+  look-2 = low-2 (mixedFirst s) share-lt ∙ right-2 (mul 2 s) s s (mul 3 s) (twice-lt s h) h h (thrice-lt s h)
 
-  pub look-3 : twice (share0 s) / 0x1000000 % 2 ^ 32 ≡ share3 s
-  unfolding share0 share3
-  look-3 = low-3 (share0 s) share-lt ∙ right-3 (mul 2 s) s s (mul 3 s) (twice-lt s h) h h (thrice-lt s h)
+  pub look-3 : twice (mixedFirst s) / 0x1000000 % 2 ^ 32 ≡ share3 s
+  unfolding mixedFirst word share3
+  look-3 = low-3 (mixedFirst s) share-lt ∙ right-3 (mul 2 s) s s (mul 3 s) (twice-lt s h) h h (thrice-lt s h)
 
   -- The second byte of an entry is the byte that it was made of.
-  pub second-byte : twice (share0 s) / 256 % 256 ≡ s
-  unfolding share0
-  second-byte = low-byte (share0 s) share-lt ∙ byte-2 (mul 2 s) s s (mul 3 s) (twice-lt s h) h h (thrice-lt s h)
+  pub second-byte : twice (mixedFirst s) / 256 % 256 ≡ s
+  unfolding mixedFirst word
+  second-byte = low-byte (mixedFirst s) share-lt ∙ byte-2 (mul 2 s) s s (mul 3 s) (twice-lt s h) h h (thrice-lt s h)
 
 -- ---- a round
 

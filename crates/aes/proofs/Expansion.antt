@@ -80,15 +80,15 @@ plain-word nk j m w p q h =
     let e : j * nk + m + 1 ≡ j * nk + (m + 1) = omega arith in
     rw (e, digits-mod j {m = nk} {r = m + 1} (omega arith), ne-eqb (m + 1) 0 (λ z. omega arith), ne-eqb (m + 1) 4 (λ z. omega arith), both-false (ltb 6 nk))
 
-pub pair-step : (nk : ℕ) (key x : List ℕ) (i j m w v u : ℕ) → i + 1 < length x → 2 ≤ nk → nk ≤ i → nk % 2 ≡ 0 → m % 2 ≡ 0
+pub pair-step : (nk : ℕ) (key x : List ℕ) (i j m w t v u : ℕ) → i + 1 < length x → 2 ≤ nk → nk ≤ i → nk % 2 ≡ 0 → m % 2 ≡ 0
     → m < nk → i ≡ j * nk + m → take i x ≡ expansion nk key i → w ≡ getD x (i - 1) 0
-    → v ≡ bitXor (getD x (i - nk) 0) (transformed nk (j * nk + m) w) → u ≡ bitXor (getD (set x i v) (i + 1 - nk) 0) v
+    → t ≡ transformed nk (j * nk + m) w → v ≡ bitXor (getD x (i - nk) 0) t → u ≡ bitXor (getD (set x i v) (i + 1 - nk) 0) v
     → take (i + 2) (set (set x i v) (i + 1) u) ≡ expansion nk key (i + 2)
-pair-step nk key x i j m w v u l two h p q k e t f a b =
-    let there : transformed nk (j * nk + m) w ≡ transformed nk i (getD x (i - 1) 0) =
-    ap (λ (n : ℕ). transformed nk n w) (sym e) ∙ ap (transformed nk i) f in
+pair-step nk key x i j m w t v u l two h p q k e z f g a b =
+    let there : t ≡ transformed nk i (getD x (i - 1) 0) =
+    g ∙ ap (λ (n : ℕ). transformed nk n w) (sym e) ∙ ap (transformed nk i) f in
     let first : v ≡ nextWord nk key i (take i x) = later-word nk key i x v (omega arith) h (a ∙ ap (bitXor (getD x (i - nk) 0)) there) in
-    let front : take (i + 1) (set x i v) ≡ expansion nk key (i + 1) = expansion-step nk key x i v (omega arith) t first in
+    let front : take (i + 1) (set x i v) ≡ expansion nk key (i + 1) = expansion-step nk key x i v (omega arith) z first in
     let back : i + 1 - 1 ≡ i = omega arith in
     let last : getD (set x i v) (i + 1 - 1) 0 ≡ v = rw back (getD-set-same x i v 0 (omega arith)) in
     let plain : transformed nk (i + 1) (getD (set x i v) (i + 1 - 1) 0) ≡ v = rw (last, e) (plain-word nk j m v p q k) in

@@ -115,11 +115,15 @@ fn share(ctx: &Context, t: State, a: u32) -> State
     requires { ⌜ Table entries (now ctx) ⌝ }
     ensures { λ u. ⌜ (u .c0 ≡ bitXor (t .c1) (share3 (sBox (byte 3 a)))) × (u .c1 ≡ bitXor (t .c2) (share2 (sBox (byte 2 a)))) × (u .c2 ≡ bitXor (t .c3) (share1 (sBox (byte 1 a)))) × (u .c3 ≡ bitXor (t .c0) (share0 (sBox (byte 0 a)))) ⌝ }
 {
+    let s0 = table::share_0(ctx, a);
+    let s3 = table::share_3(ctx, a);
+    let s2 = table::share_2(ctx, a);
+    let s1 = table::share_1(ctx, a);
     State {
-        c0: t.c1 ^ table::share_3(ctx, a),
-        c1: t.c2 ^ table::share_2(ctx, a),
-        c2: t.c3 ^ table::share_1(ctx, a),
-        c3: t.c0 ^ table::share_0(ctx, a),
+        c0: t.c1 ^ s3,
+        c1: t.c2 ^ s2,
+        c2: t.c3 ^ s1,
+        c3: t.c0 ^ s0,
     }
 }
 

@@ -8,6 +8,7 @@ use lib.ListN.{length, getD, take}
 use Rattle.octets.specs.Octets.{bytes}
 use Rattle.aes.specs.declared.State.{State}
 use Rattle.aes_tables.specs.Field.{mul, sBox}
+use Rattle.aes_round_table.specs.inner.RoundTable.{entryOf}
 use Rattle.aes.specs.Aes.{word, Nr, keyExpansion, KeySize}
 
 -- The most rounds: AES-256's.
@@ -43,14 +44,6 @@ share2 s = word s (mul 3 s) (mul 2 s) s
 
 unfoldable pub share3 : ℕ → ℕ
 share3 s = word s s (mul 3 s) (mul 2 s)
-
--- A word twice over: 32 bits of it, from a byte's boundary on, are the word turned by bytes.
-unfoldable pub twice : ℕ → ℕ
-twice w = w * 2 ^ 32 + w
-
--- The table's entry for x: its S-box entry's share in the first place, twice over.
-abbrev pub entryOf : ℕ → ℕ
-entryOf x = twice (share0 (sBox x))
 
 -- The array is long enough, what stands in front of the table are words, and it holds the table's first n entries.
 pub record Table (n : ℕ) (ctx : List ℕ) : Type 0 where

@@ -1,7 +1,7 @@
 -- `aes::schedule::extend` meets its contract.
 -- Assumes nothing.
 use borrow.Author.Needs.{needs}
-use mathlib.Core.Path.{_≡_, refl, ap}
+use mathlib.Core.Path.{_≡_, refl}
 use Prim.Native.Nat.{_+_, _*_, _-_, _%_, _≤_, _<_}
 use native.Mathlib.Omega.{arith}
 use lib.Bits.{bitXor}
@@ -40,9 +40,13 @@ to-round-constants c = c .before .before .before .before .before .before
 abbrev to-start-from-loop : tie.After-loop Inv-loop μ-loop → tie.Start Inv-loop μ-loop
 to-start-from-loop c = c .before .before .before .before .before .before
 
+abbrev to-start-from-w : tie.After-w Inv-loop μ-loop → tie.Start Inv-loop μ-loop
+to-start-from-w c = c .before .before .before .before
+
 loop-holds : tie.Need-loop-holds Inv-loop μ-loop
 loop-holds c =
-    let p = c .before .before .before .before .pre in
+    let at-start = to-start-from-w c in
+    let p = at-start .pre in
     (p .0, omega (arith, p .1 .0 .most), omega arith, p .1 .1, refl, omega arith, omega (arith, p .1 .0 .least), refl, omega arith, omega (arith, p .1 .0 .whole))
 
 transform-requires : tie.Need-transform-requires Inv-loop μ-loop
@@ -72,15 +76,16 @@ loop-again c =
     let x = to-loop c .loop .x in
     let i = to-loop c .loop .i in
     let nk = Nk (to-start c .args .key .now) in
-    let a = bitXor (getD x (i - nk) 0) (c .before .before .transform .result) in
+    let t = c .before .before .transform .result in
+    let a = bitXor (getD x (i - nk) 0) t in
     let b = bitXor (getD (set x i a) (i + 1 - nk) 0) a in
     let inside : i + 1 < length x = omega (arith, v .0, v .9, k .most) in (
       simp length-set (v .0),
       omega (arith, v .9),
       omega (arith, v .2),
-      pair-step nk (to-start c .args .key .now) x i (to-loop c .loop .p .j) (to-loop c .loop .p .m) (to-loop c .loop .w) a b inside
+      pair-step nk (to-start c .args .key .now) x i (to-loop c .loop .p .j) (to-loop c .loop .p .m) (to-loop c .loop .w) t a b inside
           (omega (arith, k .least)) (v .2) (omega (arith, k .whole)) (v .7) (v .6) (v .5) (v .3) (v .4)
-          (ap (bitXor (getD x (i - nk) 0)) (c .before .before .transform .ensures)) refl,
+          (c .before .before .transform .ensures) refl refl,
       pair-last x i a b inside,
       omega (arith, v .5, n .0),
       n .1,

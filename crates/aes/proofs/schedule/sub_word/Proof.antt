@@ -1,55 +1,35 @@
+-- `aes::schedule::sub_word` meets its contract.
+-- Assumes nothing.
 use borrow.Author.Needs.{needs}
 use native.Mathlib.Nat.{div-one}
 use Rattle.aes.specs.Aes.{subWord}
 use Rattle.aes.proofs.schedule.sub_word.Statement.{statement}
 use Rattle.aes.proofs.schedule.sub_word.Tie as tie
-use Rattle.aes.proofs.schedule.sub_word.Reads as reads
-use Rattle.aes.proofs.schedule.sub_word.Lts as lts
-use Rattle.aes.proofs.schedule.sub.Reads as sub-reads
-use Rattle.aes.proofs.schedule.word_of.Reads as word-of-reads
 
-cast-sub : tie.Need-cast-sub
-cast-sub c = search needs
+-- ---- points of the program, each reached from a later one
 
-sub-requires : tie.Need-sub-requires
-sub-requires c κs = search needs
+abbrev to-start : tie.After-word-of → tie.Start
+to-start c = c .before .before .before .before .before
 
-cast-sub-2 : tie.Need-cast-sub-2
-cast-sub-2 c = search needs
-
-sub-requires-2 : tie.Need-sub-requires-2
-sub-requires-2 c κs = search needs
-
-cast-sub-3 : tie.Need-cast-sub-3
-cast-sub-3 c = search needs
-
-sub-requires-3 : tie.Need-sub-requires-3
-sub-requires-3 c κs = search needs
-
-cast-sub-4 : tie.Need-cast-sub-4
-cast-sub-4 c = search needs
-
-sub-requires-4 : tie.Need-sub-requires-4
-sub-requires-4 c κs = search needs
-
-word-of-requires : tie.Need-word-of-requires
-word-of-requires c κs = search needs
+-- ----
 
 returns : tie.Need-returns
 unfolding subWord
-returns c = cc (div-one (c .before .before .before .before .before .args .w))
+returns c =
+    let at-start = to-start c in
+    cc (div-one (at-start .args .w))
 
 pub sub-word-spec : {M : Type 1} → statement M
 sub-word-spec =
     tie.close
     (tie.spec
-    cast-sub
-    sub-requires
-    cast-sub-2
-    sub-requires-2
-    cast-sub-3
-    sub-requires-3
-    cast-sub-4
-    sub-requires-4
-    word-of-requires
+    (λ c. search needs)
+    (λ c κs. search needs)
+    (λ c. search needs)
+    (λ c κs. search needs)
+    (λ c. search needs)
+    (λ c κs. search needs)
+    (λ c. search needs)
+    (λ c κs. search needs)
+    (λ c κs. search needs)
     returns)

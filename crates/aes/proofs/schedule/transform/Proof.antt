@@ -1,3 +1,5 @@
+-- `aes::schedule::transform` meets its contract.
+-- Assumes nothing.
 use borrow.Author.Needs.{needs}
 use borrow.Author.Tests.{eq-eqb, ne-eqb, lt-ltb, le-ltb}
 use lib.Arith.{digits-div, digits-mod}
@@ -5,25 +7,9 @@ use Rattle.aes.specs.Aes.{transformed}
 use Rattle.aes.proofs.Expansion.{turned}
 use Rattle.aes.proofs.schedule.transform.Statement.{statement}
 use Rattle.aes.proofs.schedule.transform.Tie as tie
-use Rattle.aes.proofs.schedule.transform.Reads as reads
-use Rattle.aes.proofs.schedule.transform.Lts as lts
-use Rattle.aes.proofs.schedule.round_constant.Reads as round-constant-reads
-use Rattle.aes.proofs.schedule.sub_word.Reads as sub-word-reads
 
 abbrev to-start : tie.After-sub-word2 → tie.Start
 to-start c = c .before .before .before .before
-
-mul-turned : tie.Need-mul-turned
-mul-turned c = search needs
-
-add-turned : tie.Need-add-turned
-add-turned c = search needs
-
-sub-word-requires : tie.Need-sub-word-requires
-sub-word-requires c κs = search needs
-
-round-constant-requires : tie.Need-round-constant-requires
-round-constant-requires c κs = search needs
 
 returns : tie.Need-returns
 unfolding transformed
@@ -32,9 +18,6 @@ returns c =
     let h = c .before .before .before .pre .1 .0 in
     rw (digits-mod (a .j) h, digits-div (a .j) h, eq-eqb (a .m) 0 (c .before .before .if1 .taken))
     (cc (turned (a .w) (c .before .before .before .fits .w .fits)))
-
-sub-word-requires-2 : tie.Need-sub-word-requires-2
-sub-word-requires-2 c κs = search needs
 
 returns-2 : tie.Need-returns-2
 unfolding transformed
@@ -60,12 +43,12 @@ pub transform-spec : {M : Type 1} → statement M
 transform-spec =
     tie.close
     (tie.spec
-    mul-turned
-    add-turned
-    sub-word-requires
-    round-constant-requires
+    (λ c. search needs)
+    (λ c. search needs)
+    (λ c κs. search needs)
+    (λ c κs. search needs)
     returns
-    sub-word-requires-2
+    (λ c κs. search needs)
     returns-2
     returns-3
     returns-4)

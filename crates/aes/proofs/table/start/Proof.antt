@@ -1,16 +1,12 @@
--- `aes::table::start` meets its contract: the rule of the table is tested at each of its entries.
+-- `aes::table::start` meets its contract.
 -- Assumes nothing.
-use mathlib.Core.Path.{refl}
-use Rattle.aes_tables.specs.Field.{products, xTimes, mul, squares, inverse, affineBit, affineBits, sBox}
-use Rattle.aes.specs.Aes.{word}
-use Rattle.aes.specs.inner.Context.{share0, twice}
-use Rattle.aes.proofs.Columns.{startOf, right, start-table}
+use borrow.Author.Needs.{needs}
+use Rattle.aes.proofs.Columns.{start-table}
 use Rattle.aes.proofs.table.start.Statement.{statement}
 use Rattle.aes.proofs.table.start.Tie as tie
 
 returns : tie.Need-returns
-unfolding right startOf twice share0 word products xTimes mul squares inverse affineBit affineBits sBox
-returns c = start-table _ tt refl
+returns c = start-table _ (c .table .ensures)
 
 pub start-spec : {M : Type 1} → statement M
-start-spec = tie.close (tie.spec returns)
+start-spec = tie.close (tie.spec (λ c κs. search needs) returns)

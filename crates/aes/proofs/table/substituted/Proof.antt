@@ -5,9 +5,17 @@ use native.Mathlib.Nat.{div-one}
 use Rattle.aes.proofs.table.substituted.Statement.{statement}
 use Rattle.aes.proofs.table.substituted.Tie as tie
 
+-- ---- points of the program, each reached from a later one
+
+abbrev to-start : tie.After-sub4 → tie.Start
+to-start c = c .before .before .before .before
+
+-- ----
+
 returns : tie.Need-returns
 returns c =
-    let a = c .before .before .before .before .args .a in
+    let at-start = to-start c in
+    let a = at-start .args .a in
     ((cc, cc, cc, cc (div-one a)), search needs)
 
 pub substituted-spec : {M : Type 1} → statement M
