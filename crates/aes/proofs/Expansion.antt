@@ -1,18 +1,22 @@
 -- Laws of the key schedule and of the cipher that reads it.
 -- Assumes nothing.
 use mathlib.Core.Path.{_≡_, refl, ap, sym, _∙_}
+use mathlib.Core.Bool.{Bool, true, false}
 use mathlib.Core.List.{List, [], _∷_, _++_}
 use Prim.Native.Nat.{ℕ, zero, suc, _+_, _*_, _-_, _/_, _%_, _^_, _≤_, _<_}
 use mathlib.Core.Logic.{⊎-elim}
-use native.Mathlib.Nat.{div-lt-iff-lt-mul, le-div-iff-mul-le, eq-or-lt-of-le, le-of-suc-le-suc, not-suc-le-zero}
+use native.Mathlib.Nat.{suc-mul, div-lt-iff-lt-mul, eq-or-lt-of-le, le-of-suc-le-suc, not-suc-le-zero}
 use native.Mathlib.Numerals.{add-one}
 use native.Mathlib.Omega.{arith}
-use borrow.Author.Tests.{lt-ltb}
+use borrow.Author.Tests.{lt-ltb, le-ltb, ne-eqb}
+use lib.Arith.{digits-div, digits-mod}
+use lib.Bits.{bitXor}
+use lib.Dec.{ltb}
 use lib.ListN.{length, getD, set, take, drop, length-set, length-append, length-drop, List·getD-append}
-use lib.Seq.{getD-set-same, getD-set-other, getD-take, getD-at, take-suc-set, take-set-le, take-add, take-all}
-use Rattle.octets.specs.Octets.{Octets, number, bytes}
+use lib.Seq.{getD-set-same, getD-set-other, getD-take, getD-at, take-suc-set, take-set-le, take-add, take-all, take-suc, take-take}
+use Rattle.octets.specs.Octets.{Octets, number, bytes, both}
 use Rattle.octets.proofs.Laws.{bytes-number, octets-drop}
-use Rattle.aes.specs.Aes.{word, byte, rotWord, subBytes, shiftRows, mixColumns, addRoundKey, rounds, cipher, nextWord, expansion, keyExpansion, encryptState, Nk, Nr, KeySize}
+use Rattle.aes.specs.Aes.{word, byte, rotWord, subBytes, shiftRows, mixColumns, addRoundKey, rounds, cipher, transformed, nextWord, expansion, keyExpansion, encryptState, Nk, Nr, KeySize}
 use Rattle.aes_tables.specs.Field.{xPower}
 use Rattle.aes.specs.inner.Context.{Table, Filled, Context, wordBytes, keyOf}
 use Rattle.aes.proofs.Words.{xTimes-lt, word-bytes, left-1}
@@ -22,11 +26,12 @@ unfolding xPower
 xPower-lt zero = omega arith
 xPower-lt (suc n) = xTimes-lt (xPower n) (xPower-lt n)
 
-pub round-number : (i nk : ℕ) → 4 ≤ nk → nk ≤ i → i < 11 * nk → (1 ≤ i / nk) × (i / nk ≤ 10)
-round-number i nk p q r =
-    let l : 1 ≤ i / nk = le-div-iff-mul-le {k = nk} {x = 1} {y = i} (omega arith) .1 (omega arith) in
+-- The number of the round, of word i = j * nk + m of the key schedule.
+pub round-number : (i j nk m : ℕ) → 4 ≤ nk → m < nk → i ≡ j * nk + m → i < 11 * nk → j ≤ 10
+round-number i j nk m p l e r =
+    let d : i / nk ≡ j = rw e (digits-div j l) in
     let u : i / nk < 11 = div-lt-iff-lt-mul {k = nk} {x = i} {y = 11} (omega arith) .1 r in
-    (l, omega arith)
+    omega arith
 
 pub turned : (w : ℕ) → w < 2 ^ 32 → w % 0x1000000 * 0x100 + w / 0x1000000 ≡ rotWord w
 unfolding rotWord
@@ -35,18 +40,68 @@ turned w h =
     ap (λ (x : ℕ). x % 0x1000000 * 0x100 + x / 0x1000000) (sym e)
     ∙ left-1 (byte 0 w) (byte 1 w) (byte 2 w) (byte 3 w) (omega arith) (omega arith) (omega arith) (omega arith)
 
--- The table stays where a word of the key schedule is written.
-pub table-kept : (n : ℕ) (ctx : List ℕ) (i v : ℕ) → i < 64 → Table n ctx → Table n (set ctx i v)
-table-kept n ctx i v h t =
+set-lt : (l : List ℕ) (i v k b : ℕ) → v < b → getD l k 0 < b → getD (set l i v) k 0 < b
+set-lt [] i v k b h g = g
+set-lt (x ∷ l) zero v zero b h g = h
+set-lt (x ∷ l) zero v (suc k) b h g = g
+set-lt (x ∷ l) (suc i) v zero b h g = g
+set-lt (x ∷ l) (suc i) v (suc k) b h g = set-lt l i v k b h g
+
+-- The table stays where a word is written in front of it.
+pub table-kept : (n : ℕ) (ctx : List ℕ) (i v : ℕ) → i < 64 → v < 2 ^ 32 → Table n ctx → Table n (set ctx i v)
+table-kept n ctx i v h l t =
     record {
       sized = simp length-set (t .sized);
-      entry = λ x l. getD-set-other ctx i (64 + x) v 0 (omega arith) ∙ t .entry x l;
+      words = λ k m. set-lt ctx i v k (2 ^ 32) l (t .words k m);
+      entry = λ x m. getD-set-other ctx i (64 + x) v 0 (omega arith) ∙ t .entry x m;
     }
 
 pub expansion-step : (nk : ℕ) (key ctx : List ℕ) (i v : ℕ) → i < length ctx → take i ctx ≡ expansion nk key i
     → v ≡ nextWord nk key i (take i ctx) → take (i + 1) (set ctx i v) ≡ expansion nk key (i + 1)
 unfolding expansion
 expansion-step nk key ctx i v h e q = rw (add-one, take-suc-set ctx i v h, q, e)
+
+-- ---- words behind the key, two at a time
+
+later-word : (nk : ℕ) (key : List ℕ) (i : ℕ) (x : List ℕ) (v : ℕ) → 1 ≤ nk → nk ≤ i
+    → v ≡ bitXor (getD x (i - nk) 0) (transformed nk i (getD x (i - 1) 0)) → v ≡ nextWord nk key i (take i x)
+unfolding nextWord
+later-word nk key i x v l h e =
+    rw (le-ltb i nk h, getD-take i x (i - nk) 0 (omega arith), getD-take i x (i - 1) 0 (omega arith)) e
+
+both-false : (a : Bool) → both a false ≡ false
+both-false true = refl
+both-false false = refl
+
+-- The second word of two is never transformed.
+plain-word : (nk j m w : ℕ) → nk % 2 ≡ 0 → m % 2 ≡ 0 → m < nk → transformed nk (j * nk + m + 1) w ≡ w
+unfolding transformed
+plain-word nk j m w p q h =
+    let e : j * nk + m + 1 ≡ j * nk + (m + 1) = omega arith in
+    rw (e, digits-mod j {m = nk} {r = m + 1} (omega arith), ne-eqb (m + 1) 0 (λ z. omega arith), ne-eqb (m + 1) 4 (λ z. omega arith), both-false (ltb 6 nk))
+
+pub pair-step : (nk : ℕ) (key x : List ℕ) (i j m w t v u : ℕ) → i + 1 < length x → 2 ≤ nk → nk ≤ i → nk % 2 ≡ 0 → m % 2 ≡ 0
+    → m < nk → i ≡ j * nk + m → take i x ≡ expansion nk key i → w ≡ getD x (i - 1) 0
+    → t ≡ transformed nk (j * nk + m) w → v ≡ bitXor (getD x (i - nk) 0) t → u ≡ bitXor (getD (set x i v) (i + 1 - nk) 0) v
+    → take (i + 2) (set (set x i v) (i + 1) u) ≡ expansion nk key (i + 2)
+pair-step nk key x i j m w t v u l two h p q k e z f g a b =
+    let there : t ≡ transformed nk i (getD x (i - 1) 0) =
+    g ∙ ap (λ (n : ℕ). transformed nk n w) (sym e) ∙ ap (transformed nk i) f in
+    let first : v ≡ nextWord nk key i (take i x) = later-word nk key i x v (omega arith) h (a ∙ ap (bitXor (getD x (i - nk) 0)) there) in
+    let front : take (i + 1) (set x i v) ≡ expansion nk key (i + 1) = expansion-step nk key x i v (omega arith) z first in
+    let back : i + 1 - 1 ≡ i = omega arith in
+    let last : getD (set x i v) (i + 1 - 1) 0 ≡ v = rw back (getD-set-same x i v 0 (omega arith)) in
+    let plain : transformed nk (i + 1) (getD (set x i v) (i + 1 - 1) 0) ≡ v = rw (last, e) (plain-word nk j m v p q k) in
+    let second : u ≡ nextWord nk key (i + 1) (take (i + 1) (set x i v)) =
+    later-word nk key (i + 1) (set x i v) u (omega arith) (omega arith) (rw plain b) in
+    let on : i + 2 ≡ i + 1 + 1 = omega arith in
+    rw on (expansion-step nk key (set x i v) (i + 1) u (simp length-set (omega arith)) front second)
+
+-- What was written last of a pair.
+pub pair-last : (x : List ℕ) (i v u : ℕ) → i + 1 < length x → u ≡ getD (set (set x i v) (i + 1) u) (i + 2 - 1) 0
+pair-last x i v u h =
+    let e : i + 2 - 1 ≡ i + 1 = omega arith in
+    rw e (sym (getD-set-same (set x i v) (i + 1) u 0 (simp length-set h)))
 
 module _ (w s : List ℕ) (m : ℕ) where
   key-in-front : (r : ℕ) → 4 * r + 4 ≤ m → addRoundKey (take m w) r s ≡ addRoundKey w r s
@@ -72,10 +127,10 @@ cipher-in-front w s m nr l h =
     (key-in-front w _ m nr h)
 
 -- One round more.
-pub rounds-step : (w s t u v : List ℕ) (r : ℕ) → t ≡ rounds w s r → u ≡ mixColumns (shiftRows (subBytes t))
-    → v ≡ addRoundKey w (r + 1) u → v ≡ rounds w s (r + 1)
+pub rounds-step : (w s t v : List ℕ) (r : ℕ) → t ≡ rounds w s r → v ≡ addRoundKey w (r + 1) (mixColumns (shiftRows (subBytes t)))
+    → v ≡ rounds w s (r + 1)
 unfolding rounds
-rounds-step w s t u v r e f g = g ∙ rw (f, e, add-one)
+rounds-step w s t v r e f = f ∙ rw (e, add-one)
 
 -- The rounds of the code, by the words of a context, are the cipher of its key.
 pub encrypted : (key ctx s a t u v : List ℕ) (n r : ℕ) → Context key ctx → n ≡ getD ctx 60 0 → r + 1 ≡ n
@@ -112,6 +167,34 @@ key-word nk key (suc n) k h l =
     last-or-before (expansion nk key n) _ k n _ (expansion-length nk key n) h
     (first-word nk key k n (expansion nk key n) l) (λ m. key-word nk key n k m l)
 
+-- The next word of the key.
+pub key-step : (nk : ℕ) (key x : List ℕ) (i v : ℕ) → i < length x → i < nk → take i x ≡ expansion nk key i
+    → v ≡ number 4 (drop (4 * i) key) → take (i + 1) (set x i v) ≡ expansion nk key (i + 1)
+key-step nk key x i v h l t e = expansion-step nk key x i v h t (e ∙ sym (first-word nk key i i (take i x) l refl))
+
+-- Two words on, at the end of a turn.
+pub next-turn : (j nk m : ℕ) → m + 2 ≡ nk → (j + 1) * nk + 0 ≡ j * nk + m + 2
+next-turn j nk m e = rw (add-one, suc-mul j nk) (omega arith)
+
+-- What a copied key schedule makes of a context.
+pub copied : (key w ctx : List ℕ) (n : ℕ) → KeySize (length key) → Table 256 ctx → take 60 ctx ≡ take 60 w
+    → take (4 * (Nr key + 1)) w ≡ keyExpansion key → n ≡ Nr key → Filled key ctx n
+copied key w ctx n k t e f g =
+    record {
+      table = t;
+      schedule =
+          sym (take-take (4 * (Nr key + 1)) 60 ctx (omega (arith, k .most)))
+          ∙ ap (take (4 * (Nr key + 1))) e
+          ∙ take-take (4 * (Nr key + 1)) 60 w (omega (arith, k .most))
+          ∙ f;
+      count = g;
+    }
+
+-- A word copied.
+pub copy-step : (w ctx : List ℕ) (i : ℕ) → i < length ctx → i < length w → take i ctx ≡ take i w
+    → take (i + 1) (set ctx i (getD w i 0)) ≡ take (i + 1) w
+copy-step w ctx i h l e = rw (add-one, take-suc-set ctx i (getD w i 0) h, e) (sym (take-suc w i 0 l))
+
 key-bytes : (key w : List ℕ) (nk : ℕ) → Octets key → 4 * nk ≤ length key
     → ((k : ℕ) → k < nk → getD w k 0 ≡ number 4 (drop (4 * k) key)) → (n : ℕ) → n ≤ nk → wordBytes n w ≡ take (4 * n) key
 unfolding wordBytes
@@ -136,7 +219,7 @@ context key ctx n o k f =
     ∙ key-word (Nk key) key (4 * (Nr key + 1)) i (omega arith) h in
     let e : getD (set ctx 60 n) 60 0 - 6 ≡ Nk key = omega arith in
     record {
-      table = table-kept 256 ctx 60 n (omega arith) (f .table);
+      table = table-kept 256 ctx 60 n (omega arith) (omega (arith, f .count, k .most)) (f .table);
       keySize = k;
       rounds = r;
       schedule = s;

@@ -5,10 +5,12 @@
 ghost use mathlib.Core.Path.{_≡_};
 ghost use mathlib.Core.List.{_++_};
 ghost use Prim.Native.Nat.{_+_, _*_, _≤_, _<_};
-ghost use lib.ListN.{length, drop};
+ghost use lib.Bits.{bitXor};
+ghost use lib.ListN.{length, getD, set, drop};
 ghost use Rattle.octets.specs.Octets.{bytes, pasted};
-ghost use Rattle.aes.specs.Aes.{KeySize, blockSize, addRoundKey, mixColumns, shiftRows, subBytes, rounds, encryptState, stateOf, blockOf, encrypt};
-ghost use Rattle.aes.specs.inner.Context.{maxRounds, size, entries, Table, Context, Ready, keyOf, listOf};
+ghost use Rattle.aes_tables.specs.Field.{sBox};
+ghost use Rattle.aes.specs.Aes.{KeySize, byte, blockSize, addRoundKey, mixColumns, shiftRows, subBytes, rounds, encryptState, stateOf, blockOf, encrypt};
+ghost use Rattle.aes.specs.inner.Context.{maxRounds, tableAt, entries, share0, share1, share2, share3, Table, Context, Ready, keyOf, listOf};
 
 mod schedule;
 mod table;
@@ -19,19 +21,22 @@ pub const BLOCK: usize = 16;
 // The rounds of the longest key.
 const MAX_ROUNDS: usize = 14;
 
+// The words of the longest key schedule.
+const WORDS: usize = 4 * (MAX_ROUNDS + 1);
+
 // Where the number of rounds stands in a context: behind the longest key schedule.
-const ROUNDS_AT: usize = 4 * (MAX_ROUNDS + 1);
+const ROUNDS_AT: usize = WORDS;
 
 // Where the table of the rounds starts, and its entries, one for each byte.
 const TABLE_AT: usize = 64;
 
 const ENTRIES: usize = 256;
 
-// The words of a context.
+// The numbers of a context.
 const CONTEXT_SIZE: usize = TABLE_AT + ENTRIES;
 
-// The context of a key: the key schedule, the number of rounds, and the table of the rounds.
-pub type Context = [u32; CONTEXT_SIZE];
+// The context of a key: the key schedule, a word in each number, the number of rounds, and the table of the rounds.
+pub type Context = [u64; CONTEXT_SIZE];
 
 // The state: four columns, each a word whose first byte is the highest.
 pub struct State {
@@ -41,42 +46,107 @@ pub struct State {
     pub c3: u32,
 }
 
+// Writes word i of the key schedule.
+fn put_word(ctx: &mut Context, i: usize, w: u32)
+    requires { ⌜ Table entries (now ctx) ⌝ }
+    requires { ⌜ i < tableAt ⌝ }
+    ensures { λ _. ⌜ (now (ctx .exit) ≡ set (now (ctx .entry)) i w) × Table entries (now (ctx .exit)) ⌝ }
+{
+    ctx[i] = w as u64;
+}
+
 // The context of a key.
 pub fn expand(key: &[u8]) -> Context
     requires { ⌜ KeySize (length (now key)) ⌝ }
     ensures { λ r. ⌜ Context (now (key .entry)) r ⌝ }
 {
-    let mut ctx = [0u32; CONTEXT_SIZE];
-    table::fill(&mut ctx);
-    let rounds = schedule::fill(&mut ctx, key);
-    ctx[ROUNDS_AT] = rounds;
+    let w = schedule::words(key);
+    let mut ctx = table::start();
+    let mut i = 0;
+    while i < WORDS {
+        put_word(&mut ctx, i, w[i]);
+        i += 1;
+    }
+    ctx[ROUNDS_AT] = (key.len() / 4 + 6) as u64;
     ctx
+}
+
+// Word i of the key schedule.
+fn word_at(ctx: &Context, i: usize) -> u32
+    requires { ⌜ Table entries (now ctx) ⌝ }
+    requires { ⌜ i < tableAt ⌝ }
+    ensures { λ r. ⌜ r ≡ getD (now (ctx .entry)) i 0 ⌝ }
+{
+    (ctx[i] % 0x1_0000_0000) as u32
+}
+
+// The words of round key r.
+fn round_key(ctx: &Context, r: usize) -> State
+    requires { ⌜ Table entries (now ctx) ⌝ }
+    requires { ⌜ r ≤ maxRounds ⌝ }
+    ensures { λ k. ⌜ (k .c0 ≡ getD (now (ctx .entry)) (4 * r) 0) × (k .c1 ≡ getD (now (ctx .entry)) (4 * r + 1) 0) × (k .c2 ≡ getD (now (ctx .entry)) (4 * r + 2) 0) × (k .c3 ≡ getD (now (ctx .entry)) (4 * r + 3) 0) ⌝ }
+{
+    State {
+        c0: word_at(ctx, 4 * r),
+        c1: word_at(ctx, 4 * r + 1),
+        c2: word_at(ctx, 4 * r + 2),
+        c3: word_at(ctx, 4 * r + 3),
+    }
 }
 
 // AddRoundKey of round r.
 fn add_round_key(ctx: &Context, s: State, r: usize) -> State
-    requires { ⌜ (length (now ctx) ≡ size) × (r ≤ maxRounds) ⌝ }
+    requires { ⌜ Table entries (now ctx) ⌝ }
+    requires { ⌜ r ≤ maxRounds ⌝ }
     ensures { λ t. ⌜ listOf t ≡ addRoundKey (now (ctx .entry)) r (listOf s) ⌝ }
 {
+    let k = round_key(ctx, r);
     State {
-        c0: s.c0 ^ ctx[4 * r],
-        c1: s.c1 ^ ctx[4 * r + 1],
-        c2: s.c2 ^ ctx[4 * r + 2],
-        c3: s.c3 ^ ctx[4 * r + 3],
+        c0: s.c0 ^ k.c0,
+        c1: s.c1 ^ k.c1,
+        c2: s.c2 ^ k.c2,
+        c3: s.c3 ^ k.c3,
     }
 }
 
-// SubBytes, ShiftRows and MixColumns.
-fn mix(ctx: &Context, s: State) -> State
+// Adds the shares of the bytes of column a, which ShiftRows takes to four columns, and moves the columns on by one: the
+// column that was first is last.
+fn share(ctx: &Context, t: State, a: u32) -> State
     requires { ⌜ Table entries (now ctx) ⌝ }
-    ensures { λ t. ⌜ listOf t ≡ mixColumns (shiftRows (subBytes (listOf s))) ⌝ }
+    ensures { λ u. ⌜ (u .c0 ≡ bitXor (t .c1) (share3 (sBox (byte 3 a)))) × (u .c1 ≡ bitXor (t .c2) (share2 (sBox (byte 2 a)))) × (u .c2 ≡ bitXor (t .c3) (share1 (sBox (byte 1 a)))) × (u .c3 ≡ bitXor (t .c0) (share0 (sBox (byte 0 a)))) ⌝ }
 {
+    let s0 = table::share_0(ctx, a);
+    let s3 = table::share_3(ctx, a);
+    let s2 = table::share_2(ctx, a);
+    let s1 = table::share_1(ctx, a);
     State {
-        c0: table::mixed(ctx, s.c0, s.c1, s.c2, s.c3),
-        c1: table::mixed(ctx, s.c1, s.c2, s.c3, s.c0),
-        c2: table::mixed(ctx, s.c2, s.c3, s.c0, s.c1),
-        c3: table::mixed(ctx, s.c3, s.c0, s.c1, s.c2),
+        c0: t.c1 ^ s3,
+        c1: t.c2 ^ s2,
+        c2: t.c3 ^ s1,
+        c3: t.c0 ^ s0,
     }
+}
+
+// Round r: SubBytes, ShiftRows, MixColumns and AddRoundKey. It starts from the round key, so that the sum does not wait
+// for it, and takes one column after the other, so that few values are held at a time.
+fn round(ctx: &Context, s: State, r: usize) -> State
+    requires { ⌜ Table entries (now ctx) ⌝ }
+    requires { ⌜ r ≤ maxRounds ⌝ }
+    ensures { λ t. ⌜ listOf t ≡ addRoundKey (now (ctx .entry)) r (mixColumns (shiftRows (subBytes (listOf s)))) ⌝ }
+{
+    let k = round_key(ctx, r);
+    let a = share(ctx, k, s.c0);
+    let b = share(ctx, a, s.c1);
+    let c = share(ctx, b, s.c2);
+    share(ctx, c, s.c3)
+}
+
+// The word of four bytes, each in its place.
+fn join(p: u32, q: u32, r: u32, s: u32) -> u32
+    requires { ⌜ (p ≤ 0xff000000) × (q ≤ 0xff0000) × (r ≤ 0xff00) × (s ≤ 0xff) ⌝ }
+    ensures { λ t. ⌜ t ≡ p + q + r + s ⌝ }
+{
+    p + q + r + s
 }
 
 // SubBytes and ShiftRows.
@@ -84,11 +154,15 @@ fn shift(ctx: &Context, s: State) -> State
     requires { ⌜ Table entries (now ctx) ⌝ }
     ensures { λ t. ⌜ listOf t ≡ shiftRows (subBytes (listOf s)) ⌝ }
 {
+    let a = table::substituted(ctx, s.c0);
+    let b = table::substituted(ctx, s.c1);
+    let c = table::substituted(ctx, s.c2);
+    let d = table::substituted(ctx, s.c3);
     State {
-        c0: table::substituted(ctx, s.c0, s.c1, s.c2, s.c3),
-        c1: table::substituted(ctx, s.c1, s.c2, s.c3, s.c0),
-        c2: table::substituted(ctx, s.c2, s.c3, s.c0, s.c1),
-        c3: table::substituted(ctx, s.c3, s.c0, s.c1, s.c2),
+        c0: join(a.c0, b.c1, c.c2, d.c3),
+        c1: join(b.c0, c.c1, d.c2, a.c3),
+        c2: join(c.c0, d.c1, a.c2, b.c3),
+        c3: join(d.c0, a.c1, b.c2, c.c3),
     }
 }
 
@@ -102,7 +176,7 @@ pub fn encrypt(ctx: &Context, s: State) -> State
     let mut r = 0;
     while r + 1 < n {
         r += 1;
-        t = add_round_key(ctx, mix(ctx, t), r);
+        t = round(ctx, t, r);
     }
     add_round_key(ctx, shift(ctx, t), n)
 }

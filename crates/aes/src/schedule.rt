@@ -1,67 +1,133 @@
 // The key schedule (FIPS 197 §5.2).
-use crate::Context;
+use crate::WORDS;
 ghost use mathlib.Core.Path.{_≡_};
-ghost use Prim.Native.Nat.{_+_, _*_, _-_, _/_, _%_, _≤_, _<_};
+ghost use Prim.Native.Nat.{_+_, _*_, _%_, _≤_, _<_};
 ghost use lib.ListN.{length, take};
-ghost use Rattle.aes.specs.Aes.{KeySize, Nk, Nr, rcon, transformed, nextWord};
-ghost use Rattle.aes.specs.inner.Context.{entries, Table, Filled};
+ghost use Rattle.aes_tables.specs.Field.{sBox};
+ghost use Rattle.aes_tables.specs.inner.Tables.{SBoxTable, RconTable};
+ghost use Rattle.aes.specs.Aes.{word, KeySize, Nk, Nr, rcon, subWord, transformed, expansion, keyExpansion};
+ghost use Rattle.aes.specs.inner.Context.{maxWords};
 
-// Round constant j.
-fn round_constant(j: usize) -> u32
+// A key schedule: as many words as the key asks for, then zeros.
+pub type Words = [u32; WORDS];
+
+// Round constant j, from the table of them.
+fn round_constant(r: &[u8; 10], j: usize) -> u32
+    requires { ⌜ RconTable (now r) ⌝ }
     requires { ⌜ (1 ≤ j) × (j ≤ 10) ⌝ }
-    ensures { λ r. ⌜ r ≡ rcon j ⌝ }
+    ensures { λ c. ⌜ c ≡ rcon j ⌝ }
 {
-    let r = aes_tables::round_constants();
     r[j - 1] as u32 * 0x100_0000
 }
 
-// What word i - 1, which is w, becomes before it is added to word i - nk.
-fn transform(ctx: &Context, nk: usize, i: usize, w: u32) -> u32
-    requires { ⌜ Table entries (now ctx) ⌝ }
-    requires { ⌜ (4 ≤ nk) × (nk ≤ i) × (i < 11 * nk) ⌝ }
-    ensures { λ r. ⌜ r ≡ transformed nk i w ⌝ }
+// The S-box's entry for x.
+fn sub(s: &[u8; 256], x: u8) -> u8
+    requires { ⌜ SBoxTable (now s) ⌝ }
+    ensures { λ r. ⌜ r ≡ sBox x ⌝ }
 {
-    let m = i % nk;
+    s[x as usize]
+}
+
+// The word of four bytes.
+fn word_of(a: u8, b: u8, c: u8, d: u8) -> u32
+    ensures { λ r. ⌜ r ≡ word a b c d ⌝ }
+{
+    a as u32 * 0x100_0000 + b as u32 * 0x1_0000 + c as u32 * 0x100 + d as u32
+}
+
+// SubWord.
+fn sub_word(s: &[u8; 256], w: u32) -> u32
+    requires { ⌜ SBoxTable (now s) ⌝ }
+    ensures { λ r. ⌜ r ≡ subWord w ⌝ }
+{
+    word_of(
+        sub(s, (w / 0x100_0000 % 256) as u8),
+        sub(s, (w / 0x1_0000 % 256) as u8),
+        sub(s, (w / 0x100 % 256) as u8),
+        sub(s, (w % 256) as u8),
+    )
+}
+
+// What the word before word j * nk + m, which is w, becomes before it is added to the one nk words back.
+fn transform(s: &[u8; 256], rc: &[u8; 10], nk: usize, j: usize, m: usize, w: u32) -> u32
+    requires { ⌜ SBoxTable (now s) × RconTable (now rc) ⌝ }
+    requires { ⌜ (m < nk) × (1 ≤ j) × (j ≤ 10) ⌝ }
+    ensures { λ r. ⌜ r ≡ transformed nk (j * nk + m) w ⌝ }
+{
     if m == 0 {
         let turned = w % 0x100_0000 * 0x100 + w / 0x100_0000;
-        return super::table::substituted(ctx, turned, turned, turned, turned)
-            ^ round_constant(i / nk);
+        return sub_word(s, turned) ^ round_constant(rc, j);
     }
     if 6 < nk {
         if m == 4 {
-            return super::table::substituted(ctx, w, w, w, w);
+            return sub_word(s, w);
         }
     }
     w
 }
 
-// Word i of the key schedule, where the words before it stand in ctx.
-fn next(ctx: &Context, key: &[u8], i: usize) -> u32
-    requires { ⌜ Table entries (now ctx) ⌝ }
+// Writes the key as the first words.
+fn take_key(x: &mut Words, key: &[u8])
+    requires { ⌜ length (now x) ≡ maxWords ⌝ }
     requires { ⌜ KeySize (length (now key)) ⌝ }
-    requires { ⌜ i < 4 * (Nr (now key) + 1) ⌝ }
-    ensures { λ r. ⌜ r ≡ nextWord (Nk (now (key .entry))) (now (key .entry)) i (take i (now (ctx .entry))) ⌝ }
+    ensures { λ _. ⌜ (length (now (x .exit)) ≡ maxWords) × (take (Nk (now (key .entry))) (now (x .exit)) ≡ expansion (Nk (now (key .entry))) (now (key .entry)) (Nk (now (key .entry)))) ⌝ }
 {
     let nk = key.len() / 4;
-    if i < nk {
-        return octets::read_be32(&key[4 * i..]);
-    }
-    ctx[i - nk] ^ transform(ctx, nk, i, ctx[i - 1])
-}
-
-// Fills the key schedule; the result is the number of rounds.
-pub fn fill(ctx: &mut Context, key: &[u8]) -> u32
-    requires { ⌜ Table entries (now ctx) ⌝ }
-    requires { ⌜ KeySize (length (now key)) ⌝ }
-    ensures { λ r. ⌜ Filled (now (key .entry)) (now (ctx .exit)) r ⌝ }
-{
-    let rounds = key.len() / 4 + 6;
-    let n = 4 * (rounds + 1);
     let mut i = 0;
-    while i < n {
-        let w = next(ctx, key, i);
-        ctx[i] = w;
+    while i < nk {
+        x[i] = octets::read_be32(&key[4 * i..]);
         i += 1;
     }
-    rounds as u32
+}
+
+// Where a word stands, as word j * nk + m.
+struct Place {
+    j: usize,
+    m: usize,
+}
+
+// Two words on.
+fn two_on(nk: usize, p: Place) -> Place
+    requires { ⌜ (p .m + 2 ≤ nk) × (p .m % 2 ≡ 0) × (nk ≤ 8) × (p .j ≤ 10) ⌝ }
+    ensures { λ r. ⌜ (r .j * nk + r .m ≡ p .j * nk + p .m + 2) × (r .m < nk) × (r .m % 2 ≡ 0) × (p .j ≤ r .j) ⌝ }
+{
+    if p.m + 2 == nk {
+        return Place { j: p.j + 1, m: 0 };
+    }
+    Place { j: p.j, m: p.m + 2 }
+}
+
+// Writes the words behind the key, two at a time: as nk is even, the second of two is a plain sum.
+fn extend(x: &mut Words, key: &[u8])
+    requires { ⌜ length (now x) ≡ maxWords ⌝ }
+    requires { ⌜ KeySize (length (now key)) ⌝ }
+    requires { ⌜ take (Nk (now key)) (now x) ≡ expansion (Nk (now key)) (now key) (Nk (now key)) ⌝ }
+    ensures { λ _. ⌜ (length (now (x .exit)) ≡ maxWords) × (take (4 * (Nr (now (key .entry)) + 1)) (now (x .exit)) ≡ keyExpansion (now (key .entry))) ⌝ }
+{
+    let s = aes_tables::s_box();
+    let rc = aes_tables::round_constants();
+    let nk = key.len() / 4;
+    let n = 4 * (nk + 7);
+    let mut w = x[nk - 1];
+    let mut p = Place { j: 1, m: 0 };
+    let mut i = nk;
+    while i < n {
+        let v = x[i - nk] ^ transform(&s, &rc, nk, p.j, p.m, w);
+        x[i] = v;
+        w = x[i + 1 - nk] ^ v;
+        x[i + 1] = w;
+        p = two_on(nk, p);
+        i += 2;
+    }
+}
+
+// The key schedule of a key.
+pub fn words(key: &[u8]) -> Words
+    requires { ⌜ KeySize (length (now key)) ⌝ }
+    ensures { λ r. ⌜ (length r ≡ maxWords) × (take (4 * (Nr (now (key .entry)) + 1)) r ≡ keyExpansion (now (key .entry))) ⌝ }
+{
+    let mut x = [0u32; WORDS];
+    take_key(&mut x, key);
+    extend(&mut x, key);
+    x
 }

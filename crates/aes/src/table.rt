@@ -1,56 +1,63 @@
 // The table by which a round works: for each byte, what SubBytes and MixColumns make of it.
 use crate::Context;
-use crate::ENTRIES;
+use crate::State;
 use crate::TABLE_AT;
 ghost use mathlib.Core.Path.{_≡_};
-ghost use Prim.Native.Nat.{_+_};
-ghost use lib.ListN.{length};
-ghost use Rattle.aes_tables.specs.Field.{xTimes, sBox};
-ghost use Rattle.aes.specs.Aes.{word, byte, mixColumn};
-ghost use Rattle.aes.specs.inner.Context.{size, entries, Table, mixedByte, mixed};
+ghost use Prim.Native.Nat.{_*_, _%_, _^_, _≤_};
+ghost use Rattle.aes_tables.specs.Field.{sBox};
+ghost use Rattle.aes.specs.Aes.{byte};
+ghost use Rattle.aes_round_table.specs.inner.RoundTable.{entryOf};
+ghost use Rattle.aes.specs.inner.Context.{entries, Table, share0, share1, share2, share3};
 
-// The product of the byte b and x.
-fn x_times(b: u8) -> u8
-    ensures { λ r. ⌜ r ≡ xTimes b ⌝ }
+// The context to which a key schedule is added.
+pub fn start() -> Context
+    ensures { λ r. ⌜ Table entries r ⌝ }
 {
-    let w = b as u32;
-    (w * 2 % 256) as u8 ^ (w / 128 * 0x1b) as u8
+    aes_round_table::table()
 }
 
-// The word of four bytes.
-fn word_of(a: u8, b: u8, c: u8, d: u8) -> u32
-    ensures { λ r. ⌜ r ≡ word a b c d ⌝ }
+// The low 32 bits.
+pub fn low(x: u64) -> u32
+    ensures { λ r. ⌜ r ≡ x % 2 ^ 32 ⌝ }
 {
-    ((a as u32 * 256 + b as u32) * 256 + c as u32) * 256 + d as u32
-}
-
-// The table's entry for a byte whose S-box entry is s.
-fn entry_of(s: u8) -> u32
-    ensures { λ r. ⌜ r ≡ mixedByte s ⌝ }
-{
-    let twice = x_times(s);
-    word_of(twice, s, s, s ^ twice)
-}
-
-// Fills the table.
-pub fn fill(ctx: &mut Context)
-    requires { ⌜ length (now ctx) ≡ size ⌝ }
-    ensures { λ _. ⌜ Table entries (now (ctx .exit)) ⌝ }
-{
-    let s = aes_tables::s_box();
-    let mut x = 0;
-    while x < ENTRIES {
-        ctx[TABLE_AT + x] = entry_of(s[x]);
-        x += 1;
-    }
+    (x % 0x1_0000_0000) as u32
 }
 
 // The table's entry for x.
-fn entry(ctx: &Context, x: u8) -> u32
+fn entry(ctx: &Context, x: u8) -> u64
     requires { ⌜ Table entries (now ctx) ⌝ }
-    ensures { λ r. ⌜ r ≡ mixed x ⌝ }
+    ensures { λ r. ⌜ r ≡ entryOf x ⌝ }
 {
     ctx[TABLE_AT + x as usize]
+}
+
+// The share of each byte of a column in a column of the next state: an entry turned to the byte's place.
+pub fn share_0(ctx: &Context, a: u32) -> u32
+    requires { ⌜ Table entries (now ctx) ⌝ }
+    ensures { λ r. ⌜ r ≡ share0 (sBox (byte 0 a)) ⌝ }
+{
+    low(entry(ctx, (a / 0x100_0000 % 256) as u8))
+}
+
+pub fn share_1(ctx: &Context, a: u32) -> u32
+    requires { ⌜ Table entries (now ctx) ⌝ }
+    ensures { λ r. ⌜ r ≡ share1 (sBox (byte 1 a)) ⌝ }
+{
+    low(entry(ctx, (a / 0x1_0000 % 256) as u8) / 0x100)
+}
+
+pub fn share_2(ctx: &Context, a: u32) -> u32
+    requires { ⌜ Table entries (now ctx) ⌝ }
+    ensures { λ r. ⌜ r ≡ share2 (sBox (byte 2 a)) ⌝ }
+{
+    low(entry(ctx, (a / 0x100 % 256) as u8) / 0x1_0000)
+}
+
+pub fn share_3(ctx: &Context, a: u32) -> u32
+    requires { ⌜ Table entries (now ctx) ⌝ }
+    ensures { λ r. ⌜ r ≡ share3 (sBox (byte 3 a)) ⌝ }
+{
+    low(entry(ctx, (a % 256) as u8) / 0x100_0000)
 }
 
 // The S-box's entry for x, the second byte of the table's.
@@ -61,29 +68,20 @@ fn sub(ctx: &Context, x: u8) -> u8
     (entry(ctx, x) / 256 % 256) as u8
 }
 
-// SubBytes and MixColumns of the column that ShiftRows makes of a, b, c and d.
-pub fn mixed(ctx: &Context, a: u32, b: u32, c: u32, d: u32) -> u32
+// SubBytes of a column, each byte alone in its place.
+pub fn substituted(ctx: &Context, a: u32) -> State
     requires { ⌜ Table entries (now ctx) ⌝ }
-    ensures { λ r. ⌜ r ≡ mixColumn (sBox (byte 0 a)) (sBox (byte 1 b)) (sBox (byte 2 c)) (sBox (byte 3 d)) ⌝ }
-{
-    let p = entry(ctx, (a / 0x100_0000 % 256) as u8);
-    let q = entry(ctx, (b / 0x1_0000 % 256) as u8);
-    let r = entry(ctx, (c / 0x100 % 256) as u8);
-    let s = entry(ctx, (d % 256) as u8);
-    p
-        ^ (q / 0x100 + q % 0x100 * 0x100_0000)
-        ^ (r / 0x1_0000 + r % 0x1_0000 * 0x1_0000)
-        ^ (s / 0x100_0000 + s % 0x100_0000 * 0x100)
-}
-
-// SubBytes of the column that ShiftRows makes of a, b, c and d.
-pub fn substituted(ctx: &Context, a: u32, b: u32, c: u32, d: u32) -> u32
-    requires { ⌜ Table entries (now ctx) ⌝ }
-    ensures { λ r. ⌜ r ≡ word (sBox (byte 0 a)) (sBox (byte 1 b)) (sBox (byte 2 c)) (sBox (byte 3 d)) ⌝ }
+    ensures { λ t. ⌜ (t .c0 ≡ sBox (byte 0 a) * 0x1000000) × (t .c1 ≡ sBox (byte 1 a) * 0x10000) × (t .c2 ≡ sBox (byte 2 a) * 0x100) × (t .c3 ≡ sBox (byte 3 a)) ⌝ }
+    ensures { λ t. ⌜ (t .c0 ≤ 0xff000000) × (t .c1 ≤ 0xff0000) × (t .c2 ≤ 0xff00) × (t .c3 ≤ 0xff) ⌝ }
 {
     let p = sub(ctx, (a / 0x100_0000 % 256) as u8);
-    let q = sub(ctx, (b / 0x1_0000 % 256) as u8);
-    let r = sub(ctx, (c / 0x100 % 256) as u8);
-    let s = sub(ctx, (d % 256) as u8);
-    word_of(p, q, r, s)
+    let q = sub(ctx, (a / 0x1_0000 % 256) as u8);
+    let r = sub(ctx, (a / 0x100 % 256) as u8);
+    let s = sub(ctx, (a % 256) as u8);
+    State {
+        c0: p as u32 * 0x100_0000,
+        c1: q as u32 * 0x1_0000,
+        c2: r as u32 * 0x100,
+        c3: s as u32,
+    }
 }

@@ -22,20 +22,20 @@ loop-holds c = (omega arith, refl)
 
 -- ---- points of the program, each reached from a later one
 
-abbrev to-add-round-key : tie.After-add-round-key3 Inv-loop μ-loop → tie.After-add-round-key Inv-loop μ-loop
+abbrev to-start : tie.After-add-round-key2 Inv-loop μ-loop → tie.Start Inv-loop μ-loop
+to-start c = c .before .before .before .before .before .before
+
+abbrev to-add-round-key : tie.After-add-round-key2 Inv-loop μ-loop → tie.After-add-round-key Inv-loop μ-loop
 to-add-round-key c = c .before .before .before .before
 
--- ----
-
 loop-again : tie.Need-loop-again Inv-loop μ-loop
-loop-again c = (omega arith, rounds-step _ _ _ _ _ _ (c .before .before .before .loop .inv .1) (c .before .mix .ensures) (c .add-round-key2 .ensures))
+loop-again c = (omega arith, rounds-step _ _ _ _ _ (c .before .before .loop .inv .1) (c .round .ensures))
 
 returns : tie.Need-returns Inv-loop μ-loop
 returns c =
-    let at-add-round-key = to-add-round-key c in
-    encrypted _ _ _ _ _ _ _ _ _ (at-add-round-key .before .before .pre) refl (omega arith)
-    (at-add-round-key .add-round-key .ensures) (c .before .before .before .loop .inv .1)
-    (c .before .shift .ensures) (c .add-round-key3 .ensures)
+    encrypted _ _ _ _ _ _ _ _ _ (to-start c .pre) refl (omega arith)
+    (to-add-round-key c .add-round-key .ensures) (c .before .before .before .loop .inv .1)
+    (c .before .shift .ensures) (c .add-round-key2 .ensures)
 
 pub encrypt-spec : {M : Type 1} → statement M
 encrypt-spec =
@@ -44,12 +44,10 @@ encrypt-spec =
     Inv-loop
     μ-loop
     (λ c. search needs)
-    (λ c. search needs)
     (λ c κs. search needs)
     loop-holds
     (λ c. search needs)
     (λ c. search needs)
-    (λ c κs. search needs)
     (λ c κs. search needs)
     (λ c. search needs)
     loop-again

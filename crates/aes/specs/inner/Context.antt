@@ -3,20 +3,25 @@
 -- Assumes nothing.
 use mathlib.Core.Path.{_≡_}
 use mathlib.Core.List.{List, [], _∷_, _++_}
-use Prim.Native.Nat.{ℕ, zero, suc, _+_, _*_, _-_, _<_}
+use Prim.Native.Nat.{ℕ, zero, suc, _+_, _*_, _-_, _^_, _<_}
 use lib.ListN.{length, getD, take}
 use Rattle.octets.specs.Octets.{bytes}
 use Rattle.aes.specs.declared.State.{State}
 use Rattle.aes_tables.specs.Field.{mul, sBox}
+use Rattle.aes_round_table.specs.inner.RoundTable.{entryOf}
 use Rattle.aes.specs.Aes.{word, Nr, keyExpansion, KeySize}
 
 -- The most rounds: AES-256's.
 abbrev pub maxRounds : ℕ
 maxRounds = 14
 
+-- The most words of a key schedule.
+abbrev pub maxWords : ℕ
+maxWords = 4 * (maxRounds + 1)
+
 -- The layout: the key schedule from 0 on, Nr, the table of the rounds with an entry for each byte.
 abbrev pub roundsAt : ℕ
-roundsAt = 4 * (maxRounds + 1)
+roundsAt = maxWords
 
 abbrev pub tableAt : ℕ
 tableAt = 64
@@ -27,17 +32,24 @@ entries = 256
 abbrev pub size : ℕ
 size = tableAt + entries
 
--- MixColumns of the column s, 0, 0, 0, and of SubBytes of x in the place of s.
-unfoldable pub mixedByte : ℕ → ℕ
-mixedByte s = word (mul 2 s) s s (mul 3 s)
+-- MixColumns of a column that is 0 but for the byte s in one place.
+unfoldable pub share0 : ℕ → ℕ
+share0 s = word (mul 2 s) s s (mul 3 s)
 
-abbrev pub mixed : ℕ → ℕ
-mixed x = mixedByte (sBox x)
+unfoldable pub share1 : ℕ → ℕ
+share1 s = word (mul 3 s) (mul 2 s) s s
 
--- The array is long enough and holds the table, as far as its first n entries.
+unfoldable pub share2 : ℕ → ℕ
+share2 s = word s (mul 3 s) (mul 2 s) s
+
+unfoldable pub share3 : ℕ → ℕ
+share3 s = word s s (mul 3 s) (mul 2 s)
+
+-- The array is long enough, what stands in front of the table are words, and it holds the table's first n entries.
 pub record Table (n : ℕ) (ctx : List ℕ) : Type 0 where
   pub sized : length ctx ≡ size
-  pub entry : (x : ℕ) → x < n → getD ctx (tableAt + x) 0 ≡ mixed x
+  pub words : (i : ℕ) → i < tableAt → getD ctx i 0 < 2 ^ 32
+  pub entry : (x : ℕ) → x < n → getD ctx (tableAt + x) 0 ≡ entryOf x
 
 -- The array holds the table and the key schedule, for as many rounds.
 pub record Filled (key ctx : List ℕ) (rounds : ℕ) : Type 0 where

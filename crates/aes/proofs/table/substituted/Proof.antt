@@ -1,21 +1,22 @@
--- `aes::table::substituted` meets its contract: the four bytes are those that the definition joins.
+-- `aes::table::substituted` meets its contract.
 -- Assumes nothing.
-use native.Mathlib.Nat.{div-one}
 use borrow.Author.Needs.{needs}
+use native.Mathlib.Nat.{div-one}
 use Rattle.aes.proofs.table.substituted.Statement.{statement}
 use Rattle.aes.proofs.table.substituted.Tie as tie
 
 -- ---- points of the program, each reached from a later one
 
-abbrev to-start : tie.After-word-of → tie.Start
-to-start c = c .before .before .before .before .before
+abbrev to-start : tie.After-sub4 → tie.Start
+to-start c = c .before .before .before .before
 
 -- ----
 
 returns : tie.Need-returns
 returns c =
     let at-start = to-start c in
-    cc (div-one (at-start .args .d))
+    let a = at-start .args .a in
+    ((cc, cc, cc, cc (div-one a)), search needs)
 
 pub substituted-spec : {M : Type 1} → statement M
 substituted-spec =
@@ -29,5 +30,11 @@ substituted-spec =
     (λ c κs. search needs)
     (λ c. search needs)
     (λ c κs. search needs)
-    (λ c κs. search needs)
+    (λ c. search needs)
+    (λ c. search needs)
+    (λ c. search needs)
+    (λ c. search needs)
+    (λ c. search needs)
+    (λ c. search needs)
+    (λ c. search needs)
     returns)
