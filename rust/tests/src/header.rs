@@ -1,8 +1,9 @@
 //! The header calls on both sides.
 
+use crate::layer;
 use crate::number::{BAD_HEADER, DONE, ROOM_SHORT};
 use reference::header;
-use sframe::raw::{self, Read, Written};
+use sframe::raw::{Read, Written};
 use testkit::PATTERN;
 
 /// Writes a header into a room of `room` bytes on both sides.
@@ -25,7 +26,7 @@ pub fn compare_write_header(kid: u64, ctr: u64, room: usize) -> Written {
     };
 
     let mut out = vec![PATTERN; room];
-    let written = raw::write_header(kid, ctr, &mut out);
+    let written = layer::write_header(kid, ctr, &mut out);
     assert_eq!(written, expected, "KID {kid:#x}, CTR {ctr:#x}, room {room}");
     assert_eq!(
         out, expected_room,
@@ -51,7 +52,7 @@ pub fn compare_read_header(bytes: &[u8]) -> Read {
             length: 0,
         },
     };
-    let read = raw::read_header(bytes);
+    let read = layer::read_header(bytes);
     assert_eq!(read, expected, "{bytes:02x?}");
     read
 }
