@@ -1,9 +1,12 @@
 /*
  * SFrame (RFC 9605): the sealing layer's C interface.
  *
- * Link libsframe_c.a. Keys are kept in a store, which is bytes that the caller lends to each call; the
- * library has no memory of its own. A terminal adds keys to its store, seals under the ones for
- * sending and opens under the ones for receiving. examples/seal_open.c shows it whole.
+ * Link libsframe_c.a, which target/staticlib has for x86-64 and target/aarch64 for 64-bit Arm. The
+ * proofs are of the code, not of either archive's machine code; README says what was tested of each.
+ *
+ * Keys are kept in a store, which is bytes that the caller lends to each call; the library has no
+ * memory of its own. A terminal adds keys to its store, seals under the ones for sending and opens
+ * under the ones for receiving. examples/seal_open.c shows it whole.
  *
  * Every call judges its own input: there is no number and no byte string that it has no answer for.
  * The result is the number of the answer: 0 when it is done, else the number of the cause. Where
@@ -28,6 +31,14 @@
 
 #include <stddef.h>
 #include <stdint.h>
+
+/* Lengths are 64 bits wide in the code and in its proofs, and the archives are for little-endian processors. */
+#if SIZE_MAX != UINT64_MAX
+#error "sframe: size_t must have 64 bits"
+#endif
+#if defined(__BYTE_ORDER__) && __BYTE_ORDER__ != __ORDER_LITTLE_ENDIAN__
+#error "sframe: the processor must be little-endian"
+#endif
 
 #ifdef __cplusplus
 extern "C" {

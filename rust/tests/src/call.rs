@@ -1,9 +1,10 @@
 //! One call on a store, made on both sides.
 
+use crate::layer;
 use crate::lent::Lent;
 use crate::number::DONE;
 use reference::refusal::number_and_length;
-use sframe::raw::{self, Written};
+use sframe::raw::Written;
 use sframe::Role;
 use std::fmt;
 use testkit::PATTERN;
@@ -110,7 +111,7 @@ fn on_layer(store: &[u8], call: Call) -> Outcome {
     let mut room = Lent::room(call.room());
     let done = |number| Written { number, length: 0 };
     let Written { number, length } = match call {
-        Call::Make => done(raw::make(store.lend())),
+        Call::Make => done(layer::make(store.lend())),
         Call::Add {
             role,
             suite,
@@ -118,22 +119,22 @@ fn on_layer(store: &[u8], call: Call) -> Outcome {
             base_key,
         } => {
             let add = match role {
-                Role::Sending => raw::add_sending,
-                Role::Receiving => raw::add_receiving,
+                Role::Sending => layer::add_sending,
+                Role::Receiving => layer::add_receiving,
             };
             done(add(store.lend(), kid, suite, base_key))
         }
-        Call::Remove { kid } => done(raw::remove(store.lend(), kid)),
+        Call::Remove { kid } => done(layer::remove(store.lend(), kid)),
         Call::Seal {
             kid,
             metadata,
             plaintext,
             offset,
             ..
-        } => raw::seal_at(store.lend(), kid, metadata, plaintext, room.lend(), offset),
+        } => layer::seal_at(store.lend(), kid, metadata, plaintext, room.lend(), offset),
         Call::Open {
             frame, metadata, ..
-        } => raw::open(store.bytes(), frame, metadata, room.lend()),
+        } => layer::open(store.bytes(), frame, metadata, room.lend()),
     };
     Outcome {
         number,
@@ -158,7 +159,8 @@ fn at_front(store: &[u8], call: Call) -> Outcome {
     };
     let mut store = Lent::copy(store);
     let mut room = Lent::room(call.room());
-    let Written { number, length } = raw::seal(store.lend(), kid, metadata, plaintext, room.lend());
+    let Written { number, length } =
+        layer::seal(store.lend(), kid, metadata, plaintext, room.lend());
     Outcome {
         number,
         length,

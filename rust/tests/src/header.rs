@@ -1,9 +1,10 @@
 //! The header calls on both sides.
 
+use crate::layer;
 use crate::number::{BAD_HEADER, DONE};
 use reference::header;
 use reference::refusal::number_and_length;
-use sframe::raw::{self, Read, Written};
+use sframe::raw::{Read, Written};
 use testkit::PATTERN;
 
 /// Writes a header into a room of `room` bytes on both sides, by both calls.
@@ -11,9 +12,9 @@ use testkit::PATTERN;
 pub fn compare_write_header(kid: u64, ctr: u64, room: usize) -> Written {
     let written = compare_write_header_at(kid, ctr, 0, room);
     let mut out = vec![PATTERN; room];
-    assert_eq!(raw::write_header(kid, ctr, &mut out), written);
+    assert_eq!(layer::write_header(kid, ctr, &mut out), written);
     let mut out_at = vec![PATTERN; room];
-    raw::write_header_at(kid, ctr, &mut out_at, 0);
+    layer::write_header_at(kid, ctr, &mut out_at, 0);
     assert_eq!(out, out_at);
     written
 }
@@ -26,7 +27,7 @@ pub fn compare_write_header_at(kid: u64, ctr: u64, offset: usize, room: usize) -
     let (number, length) = number_and_length(answer);
 
     let mut out = vec![PATTERN; room];
-    let written = raw::write_header_at(kid, ctr, &mut out, offset);
+    let written = layer::write_header_at(kid, ctr, &mut out, offset);
     let case = || format!("KID {kid:#x}, CTR {ctr:#x}, at {offset} of {room}");
     assert_eq!(written, Written { number, length }, "{}", case());
     assert_eq!(out, expected_room, "{}", case());
@@ -50,7 +51,7 @@ pub fn compare_read_header(bytes: &[u8]) -> Read {
             length: 0,
         },
     };
-    let read = raw::read_header(bytes);
+    let read = layer::read_header(bytes);
     assert_eq!(read, expected, "{bytes:02x?}");
     read
 }

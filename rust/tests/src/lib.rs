@@ -5,6 +5,7 @@
 
 mod call;
 mod header;
+mod layer;
 mod lent;
 mod ratchet;
 mod stores;

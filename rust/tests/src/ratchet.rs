@@ -1,9 +1,10 @@
 //! The two calls of the ratchet on both sides.
 
+use crate::layer;
 use crate::lent::Lent;
 use reference::ratchet;
 use reference::refusal::number_and_length;
-use sframe::raw::{self, RatchetKid, Written};
+use sframe::raw::{RatchetKid, Written};
 use testkit::PATTERN;
 
 /// Walks a base key into a room of `room` bytes on both sides, and checks that a
@@ -15,7 +16,7 @@ pub fn compare_walk(suite: u64, base_key: &[u8], steps: u64, room: usize) -> (Wr
     let (number, length) = number_and_length(answer);
 
     let mut out = Lent::room(room);
-    let written = raw::ratchet(suite, base_key, steps, out.lend());
+    let written = layer::ratchet(suite, base_key, steps, out.lend());
     let out = out.take_back();
     let what = format!(
         "suite {suite}, base key of {} bytes, {steps} steps, room of {room}",
@@ -34,7 +35,7 @@ pub fn compare_kid(generation: u64, step: u64, bits: u64) -> RatchetKid {
         Ok(kid) => (0, kid),
         Err(refusal) => (refusal as u32, 0),
     };
-    let answer = raw::ratchet_kid(generation, step, bits);
+    let answer = layer::ratchet_kid(generation, step, bits);
     let expected = RatchetKid { number, kid };
     assert_eq!(answer, expected, "{generation:#x}, {step:#x}, {bits} bits");
     answer

@@ -1,0 +1,115 @@
+/*
+ * Prints how much stack each call takes at most: it is made on a stack of its own that was filled with a pattern, on the
+ * longest inputs and a store of 64 records, and what a call that does nothing takes is left out. Suite 3 is suite 1 with
+ * a shorter tag, and is not tried.
+ */
+#define _XOPEN_SOURCE 700
+#include <inttypes.h>
+#include <stdio.h>
+#include <stdlib.h>
+#include <string.h>
+#include <ucontext.h>
+
+#include "sframe.h"
+
+enum { STACK = 1 << 18, PATTERN = 0xa5, RECORDS = 64 };
+
+static const uint64_t SUITES[] = { 1, 2, 4, 5 };
+
+static uint8_t stack[STACK];
+static uint8_t sending[SFRAME_STORE_SIZE(RECORDS)], receiving[SFRAME_STORE_SIZE(RECORDS)];
+static uint8_t plaintext[SFRAME_MAX_PLAINTEXT], metadata[SFRAME_MAX_METADATA], opened[SFRAME_MAX_PLAINTEXT];
+static uint8_t frame[SFRAME_FRAME_ROOM(SFRAME_MAX_PLAINTEXT)], key[SFRAME_MAX_BASE_KEY];
+static size_t frame_len, length;
+static uint64_t suite, kid, ctr;
+static uint32_t answer;
+
+static void nothing(void) { answer = 0; }
+static void make(void) { answer = sframe_make(sending, sizeof sending); }
+static void make_other(void) { answer = sframe_make(receiving, sizeof receiving); }
+static void add_sending(void) { answer = sframe_add_sending(sending, sizeof sending, RECORDS, suite, key, sizeof key); }
+static void add_receiving(void) { answer = sframe_add_receiving(receiving, sizeof receiving, RECORDS, suite, key, sizeof key); }
+static void remove_key(void) { answer = sframe_remove(sending, sizeof sending, RECORDS); }
+
+static void seal(void)
+{
+    answer = sframe_seal(sending, sizeof sending, RECORDS, metadata, sizeof metadata, plaintext, sizeof plaintext, frame, sizeof frame, &frame_len);
+}
+
+static void seal_at(void)
+{
+    answer = sframe_seal_at(sending, sizeof sending, RECORDS, metadata, sizeof metadata, plaintext, sizeof plaintext, frame, sizeof frame, 0, &frame_len);
+}
+
+static void open_frame(void)
+{
+    answer = sframe_open(receiving, sizeof receiving, frame, frame_len, metadata, sizeof metadata, opened, sizeof opened, &length);
+}
+
+static void write_header(void) { answer = sframe_write_header(UINT64_MAX, UINT64_MAX, frame, sizeof frame, &length); }
+static void write_header_at(void) { answer = sframe_write_header_at(UINT64_MAX, UINT64_MAX, frame, sizeof frame, 1, &length); }
+static void read_header(void) { answer = sframe_read_header(frame, SFRAME_MAX_HEADER, &kid, &ctr, &length); }
+static void ratchet(void) { answer = sframe_ratchet(suite, key, sizeof key, SFRAME_MAX_STEPS, opened, sizeof opened, &length); }
+static void ratchet_kid(void) { answer = sframe_ratchet_kid(1, 2, SFRAME_MAX_RATCHET_BITS, &kid); }
+
+/* How much of the stack a call has written to. */
+static size_t used_by(void (*call)(void))
+{
+    ucontext_t here, there;
+    size_t i = 0;
+
+    memset(stack, PATTERN, sizeof stack);
+    getcontext(&there);
+    there.uc_stack.ss_sp = stack;
+    there.uc_stack.ss_size = sizeof stack;
+    there.uc_link = &here;
+    makecontext(&there, call, 0);
+    if (swapcontext(&here, &there) != 0 || answer != SFRAME_DONE) {
+        fprintf(stderr, "a call answered %" PRIu32 "\n", answer);
+        exit(EXIT_FAILURE);
+    }
+    while (i < sizeof stack && stack[i] == PATTERN) {
+        i++;
+    }
+    return sizeof stack - i;
+}
+
+static const struct {
+    const char *name;
+    void (*call)(void);
+} CALLS[] = {
+    { "sframe_make", make },
+    { NULL, make_other },
+    { "sframe_add_sending", add_sending },
+    { "sframe_add_receiving", add_receiving },
+    { "sframe_seal", seal },
+    { "sframe_seal_at", seal_at },
+    { "sframe_open", open_frame },
+    { "sframe_remove", remove_key },
+    { "sframe_write_header_at", write_header_at },
+    { "sframe_write_header", write_header },
+    { "sframe_read_header", read_header },
+    { "sframe_ratchet", ratchet },
+    { "sframe_ratchet_kid", ratchet_kid },
+};
+
+int main(void)
+{
+    const size_t calls = sizeof CALLS / sizeof CALLS[0];
+    const size_t none = used_by(nothing);
+    size_t most[sizeof CALLS / sizeof CALLS[0]] = { 0 };
+
+    for (size_t s = 0; s < sizeof SUITES / sizeof SUITES[0]; s++) {
+        suite = SUITES[s];
+        for (size_t i = 0; i < calls; i++) {
+            const size_t used = used_by(CALLS[i].call) - none;
+            most[i] = used > most[i] ? used : most[i];
+        }
+    }
+    for (size_t i = 0; i < calls; i++) {
+        if (CALLS[i].name != NULL) {
+            printf("%-22s %6zu\n", CALLS[i].name, most[i]);
+        }
+    }
+    return EXIT_SUCCESS;
+}

@@ -1,0 +1,250 @@
+//! The layer that is compared: the linked one, or, where `SFRAME_DRIVER` holds a
+//! command, a program that has another build of it linked (`c/driver.c`). Each
+//! thread starts that program once, and makes its calls by it.
+
+use sframe::raw::{self, RatchetKid, Read as ReadHeader, Written};
+use std::cell::RefCell;
+use std::env;
+use std::io::{Read, Write};
+use std::process::{Child, ChildStdin, ChildStdout, Command, Stdio};
+
+/// The numbers of the calls in the driver's protocol.
+#[derive(Clone, Copy)]
+enum Which {
+    Make,
+    AddSending,
+    AddReceiving,
+    Remove,
+    Seal,
+    Open,
+    WriteHeader,
+    ReadHeader,
+    Ratchet,
+    RatchetKid,
+    SealAt,
+    WriteHeaderAt,
+}
+
+/// What a driver answers beside store and room.
+struct Answer {
+    number: u32,
+    length: usize,
+    kid: u64,
+    ctr: u64,
+}
+
+impl Answer {
+    fn written(self) -> Written {
+        Written {
+            number: self.number,
+            length: self.length,
+        }
+    }
+}
+
+struct Driver {
+    child: Child,
+    /// Until the driver is to end.
+    input: Option<ChildStdin>,
+    output: ChildStdout,
+}
+
+impl Driver {
+    /// Starts the command that `SFRAME_DRIVER` holds, words between spaces, if
+    /// there is one.
+    fn start() -> Option<Self> {
+        let command = env::var("SFRAME_DRIVER").ok()?;
+        let mut words = command.split(' ');
+        let program = words.next().expect("a string has one part at least");
+        let mut child = Command::new(program)
+            .args(words)
+            .stdin(Stdio::piped())
+            .stdout(Stdio::piped())
+            .spawn()
+            .unwrap_or_else(|error| panic!("SFRAME_DRIVER, {command:?}: {error}"));
+        Some(Driver {
+            input: child.stdin.take(),
+            output: child.stdout.take().expect("its output is piped"),
+            child,
+        })
+    }
+
+    fn call(
+        &mut self,
+        which: Which,
+        numbers: [u64; 3],
+        store: &mut [u8],
+        first: &[u8],
+        second: &[u8],
+        room: &mut [u8],
+    ) -> Answer {
+        let strings: [&[u8]; 4] = [store, first, second, room];
+        let mut call = vec![which as u8];
+        for number in numbers {
+            call.extend(number.to_le_bytes());
+        }
+        for string in strings {
+            call.extend((string.len() as u64).to_le_bytes());
+        }
+        call.extend(strings.concat());
+        let input = self.input.as_mut().expect("the driver has not ended");
+        input.write_all(&call).expect("the driver reads");
+
+        let mut head = [0; 28];
+        let mut read = |bytes: &mut [u8]| self.output.read_exact(bytes).expect("it answers");
+        read(&mut head);
+        read(store);
+        read(room);
+        let number = |at: usize| u64::from_le_bytes(head[at..at + 8].try_into().unwrap());
+        Answer {
+            number: u32::from_le_bytes(head[..4].try_into().unwrap()),
+            length: number(4) as usize,
+            kid: number(12),
+            ctr: number(20),
+        }
+    }
+}
+
+impl Drop for Driver {
+    /// Its input ends, and so does it.
+    fn drop(&mut self) {
+        drop(self.input.take());
+        let _ = self.child.wait();
+    }
+}
+
+thread_local! {
+    static DRIVER: RefCell<Option<Driver>> = RefCell::new(Driver::start());
+}
+
+/// Makes a call by the driver, if there is one.
+fn driven(
+    which: Which,
+    numbers: [u64; 3],
+    store: &mut [u8],
+    strings: [&[u8]; 2],
+    room: &mut [u8],
+) -> Option<Answer> {
+    let [first, second] = strings;
+    DRIVER.with_borrow_mut(|driver| {
+        let driver = driver.as_mut()?;
+        Some(driver.call(which, numbers, store, first, second, room))
+    })
+}
+
+pub fn make(store: &mut [u8]) -> u32 {
+    match driven(Which::Make, [0; 3], store, [&[]; 2], &mut []) {
+        Some(answer) => answer.number,
+        None => raw::make(store),
+    }
+}
+
+pub fn add_sending(store: &mut [u8], kid: u64, suite: u64, base_key: &[u8]) -> u32 {
+    let strings = [base_key, &[]];
+    match driven(Which::AddSending, [kid, suite, 0], store, strings, &mut []) {
+        Some(answer) => answer.number,
+        None => raw::add_sending(store, kid, suite, base_key),
+    }
+}
+
+pub fn add_receiving(store: &mut [u8], kid: u64, suite: u64, base_key: &[u8]) -> u32 {
+    let (numbers, strings) = ([kid, suite, 0], [base_key, &[]]);
+    match driven(Which::AddReceiving, numbers, store, strings, &mut []) {
+        Some(answer) => answer.number,
+        None => raw::add_receiving(store, kid, suite, base_key),
+    }
+}
+
+pub fn remove(store: &mut [u8], kid: u64) -> u32 {
+    match driven(Which::Remove, [kid, 0, 0], store, [&[]; 2], &mut []) {
+        Some(answer) => answer.number,
+        None => raw::remove(store, kid),
+    }
+}
+
+pub fn seal(
+    store: &mut [u8],
+    kid: u64,
+    metadata: &[u8],
+    plaintext: &[u8],
+    room: &mut [u8],
+) -> Written {
+    let strings = [metadata, plaintext];
+    match driven(Which::Seal, [kid, 0, 0], store, strings, room) {
+        Some(answer) => answer.written(),
+        None => raw::seal(store, kid, metadata, plaintext, room),
+    }
+}
+
+pub fn seal_at(
+    store: &mut [u8],
+    kid: u64,
+    metadata: &[u8],
+    plaintext: &[u8],
+    room: &mut [u8],
+    offset: usize,
+) -> Written {
+    let (numbers, strings) = ([kid, offset as u64, 0], [metadata, plaintext]);
+    match driven(Which::SealAt, numbers, store, strings, room) {
+        Some(answer) => answer.written(),
+        None => raw::seal_at(store, kid, metadata, plaintext, room, offset),
+    }
+}
+
+/// The store that the driver's call left is compared too.
+pub fn open(store: &[u8], frame: &[u8], metadata: &[u8], room: &mut [u8]) -> Written {
+    let mut copy = store.to_vec();
+    match driven(Which::Open, [0; 3], &mut copy, [frame, metadata], room) {
+        Some(answer) => {
+            assert_eq!(copy, store, "Open has changed the store");
+            answer.written()
+        }
+        None => raw::open(store, frame, metadata, room),
+    }
+}
+
+pub fn write_header(kid: u64, ctr: u64, out: &mut [u8]) -> Written {
+    match driven(Which::WriteHeader, [kid, ctr, 0], &mut [], [&[]; 2], out) {
+        Some(answer) => answer.written(),
+        None => raw::write_header(kid, ctr, out),
+    }
+}
+
+pub fn write_header_at(kid: u64, ctr: u64, out: &mut [u8], offset: usize) -> Written {
+    let numbers = [kid, ctr, offset as u64];
+    match driven(Which::WriteHeaderAt, numbers, &mut [], [&[]; 2], out) {
+        Some(answer) => answer.written(),
+        None => raw::write_header_at(kid, ctr, out, offset),
+    }
+}
+
+pub fn read_header(bytes: &[u8]) -> ReadHeader {
+    match driven(Which::ReadHeader, [0; 3], &mut [], [bytes, &[]], &mut []) {
+        Some(answer) => ReadHeader {
+            number: answer.number,
+            kid: answer.kid,
+            ctr: answer.ctr,
+            length: answer.length,
+        },
+        None => raw::read_header(bytes),
+    }
+}
+
+pub fn ratchet(suite: u64, base_key: &[u8], steps: u64, out: &mut [u8]) -> Written {
+    let (numbers, strings) = ([suite, steps, 0], [base_key, &[]]);
+    match driven(Which::Ratchet, numbers, &mut [], strings, out) {
+        Some(answer) => answer.written(),
+        None => raw::ratchet(suite, base_key, steps, out),
+    }
+}
+
+pub fn ratchet_kid(generation: u64, step: u64, bits: u64) -> RatchetKid {
+    let numbers = [generation, step, bits];
+    match driven(Which::RatchetKid, numbers, &mut [], [&[]; 2], &mut []) {
+        Some(answer) => RatchetKid {
+            number: answer.number,
+            kid: answer.kid,
+        },
+        None => raw::ratchet_kid(generation, step, bits),
+    }
+}
