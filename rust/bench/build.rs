@@ -5,49 +5,56 @@ use std::env;
 use std::path::Path;
 use std::process::Command;
 
+/// A library: the name of its part, a header of it, and what it is linked by.
+const LIBRARIES: [(&str, &str, &str); 4] = [
+    ("bearssl", "bearssl.h", "bearssl"),
+    ("nettle", "nettle/gcm.h", "nettle"),
+    ("openssl", "openssl/evp.h", "crypto"),
+    ("tomcrypt", "tomcrypt.h", "tomcrypt"),
+];
+
 fn main() {
     println!("cargo::rerun-if-changed=others");
     println!("cargo::rerun-if-env-changed=CPATH");
-    for library in ["bearssl", "tomcrypt"] {
-        println!("cargo::rustc-check-cfg=cfg(has_{library})");
-        if has_header(library) {
-            match compile(library) {
-                Ok(()) => println!("cargo::rustc-cfg=has_{library}"),
-                Err(why) => println!("cargo::error=others/{library}.c: {why}"),
+    for (name, header, library) in LIBRARIES {
+        println!("cargo::rustc-check-cfg=cfg(has_{name})");
+        if has_header(name, header) {
+            match compile(name, library) {
+                Ok(()) => println!("cargo::rustc-cfg=has_{name}"),
+                Err(why) => println!("cargo::error=others/{name}.c: {why}"),
             }
         }
     }
 }
 
 /// The C compiler, which also looks into a folder of the library's own.
-fn compiler(library: &str) -> Command {
+fn compiler(name: &str) -> Command {
     let mut command = Command::new("cc");
-    command.arg(format!("-I/usr/include/{library}"));
+    command.arg(format!("-I/usr/include/{name}"));
     command
 }
 
 /// Whether the C compiler finds the library's header.
-fn has_header(library: &str) -> bool {
-    let header = format!("{library}.h");
-    compiler(library)
-        .args(["-E", "-include", &header, "-x", "c", "/dev/null"])
+fn has_header(name: &str, header: &str) -> bool {
+    compiler(name)
+        .args(["-E", "-include", header, "-x", "c", "/dev/null"])
         .output()
         .is_ok_and(|output| output.status.success())
 }
 
 /// Compiles the part of `others/` that calls the library, and links both.
-fn compile(library: &str) -> Result<(), String> {
+fn compile(name: &str, library: &str) -> Result<(), String> {
     let folder = env::var("OUT_DIR").map_err(|error| error.to_string())?;
-    let object = Path::new(&folder).join(format!("{library}.o"));
-    let archive = Path::new(&folder).join(format!("libothers_{library}.a"));
-    run(compiler(library)
+    let object = Path::new(&folder).join(format!("{name}.o"));
+    let archive = Path::new(&folder).join(format!("libothers_{name}.a"));
+    run(compiler(name)
         .args(["-std=c99", "-O2", "-Wall", "-Wextra", "-Werror", "-c"])
-        .arg(format!("others/{library}.c"))
+        .arg(format!("others/{name}.c"))
         .arg("-o")
         .arg(&object))?;
     run(Command::new("ar").arg("crs").arg(&archive).arg(&object))?;
     println!("cargo::rustc-link-search=native={folder}");
-    println!("cargo::rustc-link-lib=static=others_{library}");
+    println!("cargo::rustc-link-lib=static=others_{name}");
     println!("cargo::rustc-link-lib={library}");
     Ok(())
 }

@@ -6,11 +6,12 @@ use native.Mathlib.Numerals.{add-one}
 use native.Mathlib.Nat.{mul-add, mul-one, mul-comm, one-mul, mod-le, mod-lt, add-mod-right, div-add-mod'}
 use native.Mathlib.Omega.{arith}
 use lib.ListN.{length, getD, take, drop, set, replicate, length-append, length-take, length-drop, length-replicate, take-append-drop, replicate-append-replicate}
-use lib.Seq.{take-suc, take-suc-set, take-all, take-at, drop-at, drop-drop, drop-append-add, set-at, getD-take, length-take-le}
+use lib.Seq.{take-suc, take-suc-set, take-all, take-at, drop-at, drop-drop, drop-append-add, set-at, getD-take, getD-set-other, length-take-le}
 use borrow.Rule.Slice.PartMut.{putMid}
 use Rattle.octets.specs.Octets.{number, bytes, pasted}
 use Rattle.octets.proofs.Laws.{part-rest, bytes-length, lent-pasted}
 use Rattle.sha2.specs.Sha2.{Params, add, Ch, Maj, Σ0, Σ1, σ0, σ1, T1, T2, words, next, schedule, round, rounds, adds, compress, run, joined, zeros, padding}
+use Rattle.sha2.specs.inner.Rounds.{Halfway}
 use Rattle.sha2.specs.inner.Running.{State, left, roomOf, waits, fed, finished}
 use Rattle.sha2.proofs.Laws.{run-append, room-full, drop-zeros, padding-eight}
 
@@ -83,15 +84,42 @@ module _ (p : Params) where
       let q : i + 1 + 16 ≡ suc (i + 16) = omega arith in
       rw (q, take-suc-set w (i + 16) v h, add-one i) (sym (schedule-word w b i v e f))
 
-  -- the whole schedule
-  pub schedule-done : (w b : List ℕ) (i n : ℕ) → i ≤ n → n ≤ i → length w ≡ n + 16 → take (i + 16) w ≡ schedule p i b → w ≡ schedule p n b
-  schedule-done w b i n h k l e =
-      let q : i ≡ n = omega arith in
-      sym (take-all (n + 16) w (omega arith)) ∙ (rw q at e)
+  -- ---- the schedule grows beside the rounds
 
-  pub compress-done : (h b w v r : List ℕ) → w ≡ schedule p (p .turns - 16) b → v ≡ rounds p w (p .turns) h → r ≡ adds p h v → r ≡ compress p h b
+  -- rounds look at no word behind them
+  rounds-kept : (w h : List ℕ) (t i v : ℕ) → t ≤ i → rounds p (set w i v) t h ≡ rounds p w t h
+  unfolding rounds
+  rounds-kept w h zero i v k = refl
+  rounds-kept w h (suc t) i v k = rw (rounds-kept w h t i v (omega arith), getD-set-other w i t v 0 (λ e. omega arith))
+
+  -- the first round's words are the block's
+  pub halfway-holds : (b h w : List ℕ) → take 16 w ≡ words p 16 b → Halfway p b h 0 w h
+  unfolding schedule rounds
+  halfway-holds b h w e = record { words = e; value = refl }
+
+  -- one word more, after a round
+  pub halfway-step : (b h w v : List ℕ) (t x : ℕ) → t + 16 < length w → take (t + 16) w ≡ schedule p t b → v ≡ rounds p w (t + 1) h
+      → x ≡ add p (add p (add p (σ1 p (getD w (t + 14) 0)) (getD w (t + 9) 0)) (σ0 p (getD w (t + 1) 0))) (getD w t 0)
+      → Halfway p b h (t + 1) (set w (t + 16) x) v
+  halfway-step b h w v t x l e f g =
+      record {
+        words = schedule-step w b t x l e g;
+        value = f ∙ sym (rounds-kept w h (t + 1) (t + 16) x (omega arith));
+      }
+
+  -- the same, counted in one step
+  pub halfway-at : (b h w v : List ℕ) (t a c n : ℕ) → a + c ≡ n → Halfway p b h (t + a + c) w v → Halfway p b h (t + n) w v
+  halfway-at b h w v t a c n e f = let q : t + a + c ≡ t + n = omega arith in rw q at f
+
+  -- all words are there, and the last rounds done
+  pub halfway-done : (b h w u v r : List ℕ) (n : ℕ) → n + 16 ≡ p .turns → length w ≡ p .turns → Halfway p b h n w u
+      → (u ≡ rounds p w n h → v ≡ rounds p w (p .turns) h) → r ≡ adds p h v → r ≡ compress p h b
   unfolding compress
-  compress-done h b w v r e f g = rw (g, f, e)
+  halfway-done b h w u v r n e l g f k =
+      let m : p .turns - 16 ≡ n = omega arith in
+      let q : w ≡ schedule p n b = sym (take-all (n + 16) w (omega arith)) ∙ g .words in
+      let z : v ≡ rounds p (schedule p n b) (p .turns) h = f (g .value) ∙ ap (λ (x : List ℕ). rounds p x (p .turns) h) q in
+      rw (k, z, m)
 
   -- ---- the digest
 

@@ -14,6 +14,7 @@ ghost use lib.ListN.{length, take, drop};
 ghost use Rattle.sha2.specs.Sha2.{Ch, Maj, Σ0, Σ1, σ0, σ1, add, words, schedule, round, rounds, adds, compress, run, joined, zeros, hash};
 ghost use Rattle.sha2.specs.Sizes.{sha256};
 ghost use Rattle.sha2.specs.Limits.{maximum};
+ghost use Rattle.sha2.specs.inner.Rounds.{Halfway};
 ghost use Rattle.sha2.specs.inner.Running.{left, roomOf, fresh, fed, finished};
 ghost use Rattle.sha256.specs.inner.State.{words256, state256, Fed256};
 
@@ -40,13 +41,13 @@ pub struct Sha256 {
 fn ch(x: u32, y: u32, z: u32) -> u32
     ensures { λ r. ⌜ r ≡ Ch sha256 x y z ⌝ }
 {
-    (x & y) ^ (!x & z)
+    z ^ (x & (y ^ z))
 }
 
 fn maj(x: u32, y: u32, z: u32) -> u32
     ensures { λ r. ⌜ r ≡ Maj sha256 x y z ⌝ }
 {
-    (x & y) ^ (x & z) ^ (y & z)
+    (x & (y ^ z)) ^ (y & z)
 }
 
 fn big_sigma0(x: u32) -> u32
@@ -113,21 +114,6 @@ fn four(v: Words256, k: &[u32; 64], w: &[u32; 64], t: usize) -> Words256
     step(v3, k, w, t + 3)
 }
 
-// All rounds, with the message schedule w.
-fn all_rounds(h: Words256, k: &[u32; 64], w: &[u32; 64]) -> Words256
-    requires { ⌜ (length (now w) ≡ 64) × (now k ≡ sha256 .constants) × (length (now k) ≡ 64) ⌝ }
-    ensures { λ r. ⌜ words256 r ≡ rounds sha256 (now (w .entry)) 64 (words256 h) ⌝ }
-{
-    let mut v = h;
-    let mut t = 0;
-    while t < 64 {
-        v = four(v, k, w, t);
-        v = four(v, k, w, t + 4);
-        t += 8;
-    }
-    v
-}
-
 // Puts the words of a block at the front of w.
 fn load(w: &mut [u32; 64], block: &[u8])
     requires { ⌜ (length (now w) ≡ 64) × (length (now block) ≡ 64) ⌝ }
@@ -148,16 +134,56 @@ fn next_word(w2: u32, w7: u32, w15: u32, w16: u32) -> u32
     wrapping_add_u32(wrapping_add_u32(sum, small_sigma0(w15)), w16)
 }
 
-// Fills w with the rest of the message schedule.
-fn expand(w: &mut [u32; 64])
-    requires { ⌜ length (now w) ≡ 64 ⌝ }
-    ensures { λ _. ⌜ (length (now (w .exit)) ≡ 64) × ((b : List ℕ) → take 16 (now (w .entry)) ≡ words sha256 16 b → now (w .exit) ≡ schedule sha256 48 b) ⌝ }
+// Word t + 16 of the message schedule, after the round t.
+fn extend(w: &mut [u32; 64], t: usize)
+    requires { ⌜ (t + 16 < 64) × (length (now w) ≡ 64) ⌝ }
+    ensures { λ _. ⌜ (length (now (w .exit)) ≡ 64) × ((b h v : List ℕ) → take (t + 16) (now (w .entry)) ≡ schedule sha256 t b → v ≡ rounds sha256 (now (w .entry)) (t + 1) h → Halfway sha256 b h (t + 1) (now (w .exit)) v) ⌝ }
 {
-    let mut i = 0;
-    while i < 48 {
-        w[i + 16] = next_word(w[i + 14], w[i + 9], w[i + 1], w[i]);
-        i += 1;
+    w[t + 16] = next_word(w[t + 14], w[t + 9], w[t + 1], w[t]);
+}
+
+// The rounds t to t + 3, and with each the word of the schedule that is 16 further on.
+fn four_grown(v: Words256, k: &[u32; 64], w: &mut [u32; 64], t: usize) -> Words256
+    requires { ⌜ (t + 20 ≤ 64) × (length (now w) ≡ 64) × (now k ≡ sha256 .constants) × (length (now k) ≡ 64) ⌝ }
+    ensures { λ r. ⌜ (length (now (w .exit)) ≡ 64) × ((b h : List ℕ) → Halfway sha256 b h t (now (w .entry)) (words256 v) → Halfway sha256 b h (t + 4) (now (w .exit)) (words256 r)) ⌝ }
+{
+    let v1 = step(v, k, w, t);
+    extend(w, t);
+    let v2 = step(v1, k, w, t + 1);
+    extend(w, t + 1);
+    let v3 = step(v2, k, w, t + 2);
+    extend(w, t + 2);
+    let v4 = step(v3, k, w, t + 3);
+    extend(w, t + 3);
+    v4
+}
+
+// All rounds but the last sixteen, and the whole message schedule.
+fn first_rounds(h: Words256, k: &[u32; 64], w: &mut [u32; 64]) -> Words256
+    requires { ⌜ (length (now w) ≡ 64) × (now k ≡ sha256 .constants) × (length (now k) ≡ 64) ⌝ }
+    ensures { λ r. ⌜ (length (now (w .exit)) ≡ 64) × ((b : List ℕ) → take 16 (now (w .entry)) ≡ words sha256 16 b → Halfway sha256 b (words256 h) 48 (now (w .exit)) (words256 r)) ⌝ }
+{
+    let mut v = h;
+    let mut t = 0;
+    while t < 48 {
+        v = four_grown(v, k, w, t);
+        t += 4;
     }
+    v
+}
+
+// The last sixteen rounds.
+fn last_rounds(u: Words256, k: &[u32; 64], w: &[u32; 64]) -> Words256
+    requires { ⌜ (length (now w) ≡ 64) × (now k ≡ sha256 .constants) × (length (now k) ≡ 64) ⌝ }
+    ensures { λ r. ⌜ ((h : List ℕ) → words256 u ≡ rounds sha256 (now (w .entry)) 48 h → words256 r ≡ rounds sha256 (now (w .entry)) 64 h) ⌝ }
+{
+    let mut v = u;
+    let mut t = 48;
+    while t < 64 {
+        v = four(v, k, w, t);
+        t += 4;
+    }
+    v
 }
 
 // The sums of the words of x and y.
@@ -183,8 +209,8 @@ fn compress(h: Words256, k: &[u32; 64], block: &[u8]) -> Words256
 {
     let mut w = [0u32; 64];
     load(&mut w, block);
-    expand(&mut w);
-    let v = all_rounds(h, k, &w);
+    let u = first_rounds(h, k, &mut w);
+    let v = last_rounds(u, k, &w);
     sums(h, v)
 }
 

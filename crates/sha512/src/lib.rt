@@ -14,6 +14,7 @@ ghost use lib.ListN.{length, take, drop};
 ghost use Rattle.sha2.specs.Sha2.{Ch, Maj, Σ0, Σ1, σ0, σ1, add, words, schedule, round, rounds, adds, compress, run, joined, zeros, hash};
 ghost use Rattle.sha2.specs.Sizes.{sha512};
 ghost use Rattle.sha2.specs.Limits.{maximum};
+ghost use Rattle.sha2.specs.inner.Rounds.{Halfway};
 ghost use Rattle.sha2.specs.inner.Running.{left, roomOf, fresh, fed, finished};
 ghost use Rattle.sha512.specs.inner.State.{words512, state512, Fed512};
 
@@ -40,13 +41,13 @@ pub struct Sha512 {
 fn ch(x: u64, y: u64, z: u64) -> u64
     ensures { λ r. ⌜ r ≡ Ch sha512 x y z ⌝ }
 {
-    (x & y) ^ (!x & z)
+    z ^ (x & (y ^ z))
 }
 
 fn maj(x: u64, y: u64, z: u64) -> u64
     ensures { λ r. ⌜ r ≡ Maj sha512 x y z ⌝ }
 {
-    (x & y) ^ (x & z) ^ (y & z)
+    (x & (y ^ z)) ^ (y & z)
 }
 
 fn big_sigma0(x: u64) -> u64
@@ -113,21 +114,6 @@ fn four(v: Words512, k: &[u64; 80], w: &[u64; 80], t: usize) -> Words512
     step(v3, k, w, t + 3)
 }
 
-// All rounds, with the message schedule w.
-fn all_rounds(h: Words512, k: &[u64; 80], w: &[u64; 80]) -> Words512
-    requires { ⌜ (length (now w) ≡ 80) × (now k ≡ sha512 .constants) × (length (now k) ≡ 80) ⌝ }
-    ensures { λ r. ⌜ words512 r ≡ rounds sha512 (now (w .entry)) 80 (words512 h) ⌝ }
-{
-    let mut v = h;
-    let mut t = 0;
-    while t < 80 {
-        v = four(v, k, w, t);
-        v = four(v, k, w, t + 4);
-        t += 8;
-    }
-    v
-}
-
 // Puts the words of a block at the front of w.
 fn load(w: &mut [u64; 80], block: &[u8])
     requires { ⌜ (length (now w) ≡ 80) × (length (now block) ≡ 128) ⌝ }
@@ -148,16 +134,56 @@ fn next_word(w2: u64, w7: u64, w15: u64, w16: u64) -> u64
     wrapping_add_u64(wrapping_add_u64(sum, small_sigma0(w15)), w16)
 }
 
-// Fills w with the rest of the message schedule.
-fn expand(w: &mut [u64; 80])
-    requires { ⌜ length (now w) ≡ 80 ⌝ }
-    ensures { λ _. ⌜ (length (now (w .exit)) ≡ 80) × ((b : List ℕ) → take 16 (now (w .entry)) ≡ words sha512 16 b → now (w .exit) ≡ schedule sha512 64 b) ⌝ }
+// Word t + 16 of the message schedule, after the round t.
+fn extend(w: &mut [u64; 80], t: usize)
+    requires { ⌜ (t + 16 < 80) × (length (now w) ≡ 80) ⌝ }
+    ensures { λ _. ⌜ (length (now (w .exit)) ≡ 80) × ((b h v : List ℕ) → take (t + 16) (now (w .entry)) ≡ schedule sha512 t b → v ≡ rounds sha512 (now (w .entry)) (t + 1) h → Halfway sha512 b h (t + 1) (now (w .exit)) v) ⌝ }
 {
-    let mut i = 0;
-    while i < 64 {
-        w[i + 16] = next_word(w[i + 14], w[i + 9], w[i + 1], w[i]);
-        i += 1;
+    w[t + 16] = next_word(w[t + 14], w[t + 9], w[t + 1], w[t]);
+}
+
+// The rounds t to t + 3, and with each the word of the schedule that is 16 further on.
+fn four_grown(v: Words512, k: &[u64; 80], w: &mut [u64; 80], t: usize) -> Words512
+    requires { ⌜ (t + 20 ≤ 80) × (length (now w) ≡ 80) × (now k ≡ sha512 .constants) × (length (now k) ≡ 80) ⌝ }
+    ensures { λ r. ⌜ (length (now (w .exit)) ≡ 80) × ((b h : List ℕ) → Halfway sha512 b h t (now (w .entry)) (words512 v) → Halfway sha512 b h (t + 4) (now (w .exit)) (words512 r)) ⌝ }
+{
+    let v1 = step(v, k, w, t);
+    extend(w, t);
+    let v2 = step(v1, k, w, t + 1);
+    extend(w, t + 1);
+    let v3 = step(v2, k, w, t + 2);
+    extend(w, t + 2);
+    let v4 = step(v3, k, w, t + 3);
+    extend(w, t + 3);
+    v4
+}
+
+// All rounds but the last sixteen, and the whole message schedule.
+fn first_rounds(h: Words512, k: &[u64; 80], w: &mut [u64; 80]) -> Words512
+    requires { ⌜ (length (now w) ≡ 80) × (now k ≡ sha512 .constants) × (length (now k) ≡ 80) ⌝ }
+    ensures { λ r. ⌜ (length (now (w .exit)) ≡ 80) × ((b : List ℕ) → take 16 (now (w .entry)) ≡ words sha512 16 b → Halfway sha512 b (words512 h) 64 (now (w .exit)) (words512 r)) ⌝ }
+{
+    let mut v = h;
+    let mut t = 0;
+    while t < 64 {
+        v = four_grown(v, k, w, t);
+        t += 4;
     }
+    v
+}
+
+// The last sixteen rounds.
+fn last_rounds(u: Words512, k: &[u64; 80], w: &[u64; 80]) -> Words512
+    requires { ⌜ (length (now w) ≡ 80) × (now k ≡ sha512 .constants) × (length (now k) ≡ 80) ⌝ }
+    ensures { λ r. ⌜ ((h : List ℕ) → words512 u ≡ rounds sha512 (now (w .entry)) 64 h → words512 r ≡ rounds sha512 (now (w .entry)) 80 h) ⌝ }
+{
+    let mut v = u;
+    let mut t = 64;
+    while t < 80 {
+        v = four(v, k, w, t);
+        t += 4;
+    }
+    v
 }
 
 // The sums of the words of x and y.
@@ -183,8 +209,8 @@ fn compress(h: Words512, k: &[u64; 80], block: &[u8]) -> Words512
 {
     let mut w = [0u64; 80];
     load(&mut w, block);
-    expand(&mut w);
-    let v = all_rounds(h, k, &w);
+    let u = first_rounds(h, k, &mut w);
+    let v = last_rounds(u, k, &w);
     sums(h, v)
 }
 

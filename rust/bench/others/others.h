@@ -4,6 +4,19 @@
 
 #include <stddef.h>
 #include <stdint.h>
+#include <stdlib.h>
+
+/* Whether a library may use special instructions of the processor. Those that choose by themselves are held back by
+   their own environment variables. */
+static inline int special(void)
+{
+    static int known = -1;
+
+    if (known < 0) {
+        known = getenv("BENCH_SPECIAL") != NULL;
+    }
+    return known;
+}
 
 /* Writes x as 8 bytes, the highest first. */
 static inline void put64(uint8_t *out, uint64_t x)

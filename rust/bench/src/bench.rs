@@ -6,13 +6,20 @@ mod judging;
 mod others;
 mod stores;
 
-use bench::print_method;
+use bench::{print_method, progress};
 use std::path::{Path, PathBuf};
 use std::process::ExitCode;
 use std::{env, fs, io};
 
 /// Takes the folder that the tables are written to as CSV files.
 fn main() -> ExitCode {
+    if env::args_os()
+        .nth(1)
+        .is_some_and(|word| word == others::CHILD)
+    {
+        others::child();
+        return ExitCode::SUCCESS;
+    }
     let folder = match env::args_os().nth(1) {
         Some(folder) => PathBuf::from(folder),
         None => Path::new(env!("CARGO_MANIFEST_DIR")).with_file_name("target/bench"),
@@ -29,10 +36,17 @@ fn main() -> ExitCode {
 fn run(folder: &Path) -> io::Result<()> {
     fs::create_dir_all(folder)?;
     print_method();
+    progress("1 of 4: headers");
     headers::run();
+    progress("2 of 4: frames");
     frames::run(&folder.join("frames.csv"))?;
+    progress("3 of 4: judging the store");
     judging::run(&folder.join("judging.csv"))?;
-    others::run();
-    println!("\nframes.csv and judging.csv are in {}", folder.display());
+    progress("4 of 4: other libraries");
+    others::run(&folder.join("libraries.csv"))?;
+    println!(
+        "\nframes.csv, judging.csv and libraries.csv are in {}",
+        folder.display()
+    );
     Ok(())
 }

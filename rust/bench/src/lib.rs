@@ -1,15 +1,18 @@
 //! Measuring two programs side by side.
 
-#![forbid(unsafe_code)]
+#![deny(unsafe_code)]
 
-use std::time::{Duration, Instant};
+mod clock;
+
+use clock::now;
+use std::time::Duration;
 
 /// How many runs a median is taken of.
 const RUNS: usize = 10;
-/// How long a run lasts at least.
+/// How long a run lasts at least, in processor time.
 const RUN_TIME: Duration = Duration::from_millis(10);
 
-/// The median time of one call, in nanoseconds.
+/// The median processor time of one call, in nanoseconds.
 #[derive(Clone, Copy)]
 pub struct Times {
     /// The sealing layer's.
@@ -48,11 +51,16 @@ impl Times {
 /// Says how the figures are taken, above the first table.
 pub fn print_method() {
     println!(
-        "Medians of {RUNS} runs of at least {} ms, ours and the reference's in turns. Output\n\
-         buffers were cleared once before the runs. The last column is our time over\n\
-         the reference's: lower is better for us.",
+        "Medians of {RUNS} runs of at least {} ms of processor time, ours and the reference's\n\
+         in turns. Output buffers were cleared once before the runs. The last column is\n\
+         our time over the reference's: lower is better for us.",
         RUN_TIME.as_millis()
     );
+}
+
+/// Says on standard error what is measured now.
+pub fn progress(what: &str) {
+    eprintln!("bench: {what}");
 }
 
 /// Starts a table.
@@ -88,11 +96,11 @@ fn calls_per_run(call: &mut impl FnMut()) -> u32 {
 
 /// The time of one call in a run of `calls`, in nanoseconds.
 fn run_time(calls: u32, call: &mut impl FnMut()) -> f64 {
-    let start = Instant::now();
+    let start = now();
     for _ in 0..calls {
         call();
     }
-    start.elapsed().as_secs_f64() * 1e9 / f64::from(calls)
+    (now() - start).as_secs_f64() * 1e9 / f64::from(calls)
 }
 
 fn median(mut times: [f64; RUNS]) -> f64 {

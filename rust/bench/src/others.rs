@@ -1,15 +1,34 @@
 //! Other libraries that a terminal maker could pick, where they are installed.
+//!
+//! Each is measured twice, in a program of its own: held to plain instructions,
+//! as the layer is, and free to use the special ones that the processor has.
 
 use crate::stores::{full, BASE_KEY, FIRST_COUNTER, KID};
-use bench::measure;
+use bench::{measure, progress, Times};
 use reference::header::write_header;
 use reference::store::Role;
 use reference::suites::nonce;
 use sframe::{frame_room, Suite};
+use std::fmt::Write;
 use std::hint::black_box;
+use std::path::Path;
+use std::process::{Command, Stdio};
+use std::{env, fs, io};
 use testkit::Generator;
 
 const LENGTHS: [usize; 3] = [160, 1_200, 32_768];
+
+/// The word by which the bench starts itself to measure the libraries.
+pub const CHILD: &str = "--libraries";
+
+/// How a line begins on which that program writes a comparison.
+const ROW: &str = "row ";
+
+/// What keeps libraries from special instructions: they read these variables
+/// when they are loaded.
+const HELD: [(&str, &str); 2] = [("NETTLE_FAT_OVERRIDE", "none"), ("OPENSSL_ia32cap", "0:0")];
+/// What the parts in `others/` look at where the choice is theirs.
+const FREE: (&str, &str) = ("BENCH_SPECIAL", "1");
 
 /// Key, nonce, associated data with its length, data with its length, tag. The
 /// data is encrypted in place.
@@ -19,128 +38,189 @@ type Encrypt =
 /// A library, and what it offers for suites 1 and 4 where it is installed.
 struct Library {
     name: &'static str,
-    header: &'static str,
     suites: Option<[Encrypt; 2]>,
 }
 
-/// Declares functions of `others/`.
-#[cfg(any(has_bearssl, has_tomcrypt))]
-macro_rules! encrypts {
-    ($($name:ident),*) => {
-        extern "C" {
-            $(fn $name(
-                key: *const u8,
-                nonce: *const u8,
-                aad: *const u8,
-                aad_len: usize,
-                data: *mut u8,
-                len: usize,
-                tag: *mut u8,
-            );)*
+/// A library's entry: its functions in `others/`, where the build found it.
+macro_rules! library {
+    ($name:literal, $has:meta, $($suite:ident),*) => {{
+        #[cfg($has)]
+        let suites = {
+            extern "C" {
+                $(fn $suite(
+                    key: *const u8,
+                    nonce: *const u8,
+                    aad: *const u8,
+                    aad_len: usize,
+                    data: *mut u8,
+                    len: usize,
+                    tag: *mut u8,
+                );)*
+            }
+            Some([$($suite as Encrypt),*])
+        };
+        #[cfg(not($has))]
+        let suites = None;
+        Library {
+            name: $name,
+            suites,
         }
-    };
+    }};
 }
 
-#[cfg(has_bearssl)]
-encrypts!(others_bearssl_suite1, others_bearssl_suite4);
-#[cfg(has_tomcrypt)]
-encrypts!(others_tomcrypt_suite1, others_tomcrypt_suite4);
-
-fn libraries() -> [Library; 2] {
-    #[cfg(has_bearssl)]
-    let bearssl: Option<[Encrypt; 2]> = Some([others_bearssl_suite1, others_bearssl_suite4]);
-    #[cfg(not(has_bearssl))]
-    let bearssl = None;
-    #[cfg(has_tomcrypt)]
-    let tomcrypt: Option<[Encrypt; 2]> = Some([others_tomcrypt_suite1, others_tomcrypt_suite4]);
-    #[cfg(not(has_tomcrypt))]
-    let tomcrypt = None;
+#[rustfmt::skip]
+fn libraries() -> [Library; 4] {
     [
-        Library {
-            name: "BearSSL",
-            header: "bearssl.h",
-            suites: bearssl,
-        },
-        Library {
-            name: "libtomcrypt",
-            header: "tomcrypt.h",
-            suites: tomcrypt,
-        },
+        library!("BearSSL", has_bearssl, others_bearssl_suite1, others_bearssl_suite4),
+        library!("libtomcrypt", has_tomcrypt, others_tomcrypt_suite1, others_tomcrypt_suite4),
+        library!("nettle", has_nettle, others_nettle_suite1, others_nettle_suite4),
+        library!("OpenSSL", has_openssl, others_openssl_suite1, others_openssl_suite4),
     ]
 }
 
-/// Prints a table for each library that is here, or says that it is not.
-pub fn run() {
+/// Prints the table of the libraries that are here, says which are not, and
+/// writes the table to a file.
+pub fn run(csv: &Path) -> io::Result<()> {
+    println!(
+        "\nother libraries: encryption with the key made ready, beside the layer's Seal with\n\
+         a store of one record; bytes compared first. Free: with the special instructions\n\
+         that the processor has, which the layer does not use.\n\n\
+         library      suite   bytes   ours ns  theirs ns  ratio   free ns  ratio"
+    );
+    let held = measured(&HELD)?;
+    let free = measured(&[FREE])?;
+    let mut rows =
+        String::from("library,suite,bytes,ours_ns,theirs_ns,ours_again_ns,theirs_free_ns\n");
+    for (held, free) in held.iter().zip(&free) {
+        let (ours, theirs) = (held.times.ours, held.times.reference);
+        let (again, quick) = (free.times.ours, free.times.reference);
+        println!(
+            "{:<11}  {:>5}  {:>6}  {ours:>8.0}  {theirs:>9.0}  {:>5.2}  {quick:>8.0}  {:>5.2}",
+            held.library,
+            held.suite,
+            held.length,
+            ours / theirs,
+            again / quick
+        );
+        writeln!(
+            rows,
+            "{},{},{},{ours:.1},{theirs:.1},{again:.1},{quick:.1}",
+            held.library, held.suite, held.length
+        )
+        .expect("a string takes any text");
+    }
+    for library in libraries().iter().filter(|one| one.suites.is_none()) {
+        println!("{}: not compared, as it is not installed", library.name);
+    }
+    fs::write(csv, rows)
+}
+
+/// What one comparison gave.
+struct Row {
+    library: String,
+    suite: String,
+    length: String,
+    times: Times,
+}
+
+/// The rows of a program that is started with these variables set.
+fn measured(variables: &[(&str, &str)]) -> io::Result<Vec<Row>> {
+    let output = Command::new(env::current_exe()?)
+        .arg(CHILD)
+        .envs(variables.iter().copied())
+        .stderr(Stdio::inherit())
+        .output()?;
+    if !output.status.success() {
+        return Err(io::Error::other("measuring the libraries failed"));
+    }
+    let text = String::from_utf8_lossy(&output.stdout);
+    let rows = text.lines().filter_map(|line| line.strip_prefix(ROW));
+    rows.map(row).collect()
+}
+
+fn row(line: &str) -> io::Result<Row> {
+    let wrong = || io::Error::other(format!("not a row: {line}"));
+    let [library, suite, length, ours, theirs] = line.split(',').collect::<Vec<_>>()[..] else {
+        return Err(wrong());
+    };
+    Ok(Row {
+        library: library.to_string(),
+        suite: suite.to_string(),
+        length: length.to_string(),
+        times: Times {
+            ours: ours.parse().map_err(|_| wrong())?,
+            reference: theirs.parse().map_err(|_| wrong())?,
+        },
+    })
+}
+
+/// Measures the libraries that are here and prints a line for each comparison.
+pub fn child() {
+    let free = env::var_os(FREE.0).is_some();
     for library in libraries() {
-        println!();
-        match library.suites {
-            None => println!(
-                "{}: not compared, as it is not installed ({})",
-                library.name, library.header
-            ),
-            Some([suite1, suite4]) => {
-                let mut generator = Generator::new(0x6265_6e63_6800_0003);
+        let Some([suite1, suite4]) = library.suites else {
+            continue;
+        };
+        let how = if free { "free" } else { "plain instructions" };
+        progress(&format!("{}, {how}", library.name));
+        let mut generator = Generator::new(0x6265_6e63_6800_0003);
+        for (suite, encrypt) in [
+            (Suite::Aes128CtrHmacSha256_80, suite1),
+            (Suite::Aes128GcmSha256_128, suite4),
+        ] {
+            for length in LENGTHS {
+                let times = compare(suite, encrypt, &generator.bytes(length));
+                let Times { ours, reference } = times;
                 println!(
-                    "{}: encryption with the key made ready, beside the layer's Seal with a\n\
-                     store of one record; bytes compared first\n\n\
-                     suite   bytes   ours ns  theirs ns  ratio",
-                    library.name
+                    "{ROW}{},{},{length},{ours},{reference}",
+                    library.name,
+                    suite.number()
                 );
-                compare(Suite::Aes128CtrHmacSha256_80, suite1, &mut generator);
-                compare(Suite::Aes128GcmSha256_128, suite4, &mut generator);
             }
         }
     }
 }
 
-/// The rows of a suite. Ends the program where the bytes differ.
-fn compare(suite: Suite, encrypt: Encrypt, generator: &mut Generator) {
+/// Times of the layer's Seal and of a library's encryption. Ends the program
+/// where their bytes differ.
+fn compare(suite: Suite, encrypt: Encrypt, plaintext: &[u8]) -> Times {
     let number = suite.number();
     let other = reference::suites::Suite::from_number(number).expect("a suite has a number");
     let (key, salt) = other.derive_key_salt(KID, &BASE_KEY);
     let iv = nonce(&salt, FIRST_COUNTER);
     let header = write_header(KID, FIRST_COUNTER);
-    for length in LENGTHS {
-        let plaintext = generator.bytes(length);
-        let mut tag = vec![0; other.nt()];
-        let mut theirs = |data: &mut [u8]| {
-            // SAFETY: each pointer is that of a live slice of the length that
-            // the function takes: key and tag by the suite, a nonce of 12.
-            unsafe {
-                encrypt(
-                    key.as_ptr(),
-                    iv.as_ptr(),
-                    header.as_ptr(),
-                    header.len(),
-                    data.as_mut_ptr(),
-                    data.len(),
-                    tag.as_mut_ptr(),
-                );
-            }
-            tag.clone()
-        };
-        let mut store = full(1, suite, Role::Sending);
-        let mut out = vec![0; frame_room(suite, length)];
-        let written = sframe::raw::seal(&mut store, KID, &[], &plaintext, &mut out);
-        let mut data = plaintext.clone();
-        let tag = theirs(&mut data);
-        let expected = [&header[..], &data, &tag].concat();
-        assert_eq!(out[..written.length], expected, "suite {number}");
+    let mut tag = vec![0; other.nt()];
+    let mut theirs = |data: &mut [u8]| {
+        // SAFETY: each pointer is that of a live slice of the length that
+        // the function takes: key and tag by the suite, a nonce of 12.
+        unsafe {
+            encrypt(
+                key.as_ptr(),
+                iv.as_ptr(),
+                header.as_ptr(),
+                header.len(),
+                data.as_mut_ptr(),
+                data.len(),
+                tag.as_mut_ptr(),
+            );
+        }
+        tag.clone()
+    };
+    let mut store = full(1, suite, Role::Sending);
+    let mut out = vec![0; frame_room(suite, plaintext.len())];
+    let written = sframe::raw::seal(&mut store, KID, &[], plaintext, &mut out);
+    let mut data = plaintext.to_vec();
+    let tag = theirs(&mut data);
+    let expected = [&header[..], &data, &tag].concat();
+    assert_eq!(out[..written.length], expected, "suite {number}");
 
-        let times = measure(
-            || {
-                let plaintext = black_box(&plaintext);
-                black_box(sframe::raw::seal(&mut store, KID, &[], plaintext, &mut out));
-            },
-            || {
-                black_box(theirs(black_box(&mut data)));
-            },
-        );
-        println!(
-            "{number:>5}  {length:>6}  {:>8.0}  {:>9.0}  {:>5.2}",
-            times.ours,
-            times.reference,
-            times.ours / times.reference
-        );
-    }
+    measure(
+        || {
+            let plaintext = black_box(plaintext);
+            black_box(sframe::raw::seal(&mut store, KID, &[], plaintext, &mut out));
+        },
+        || {
+            black_box(theirs(black_box(&mut data)));
+        },
+    )
 }

@@ -1,0 +1,44 @@
+use mathlib.Core.Path.{_≡_, refl}
+use mathlib.Core.List.{List}
+use Prim.Native.Nat.{ℕ, _≤_, _-_, _%_}
+use native.Mathlib.Omega.{arith}
+use Rattle.sha2.specs.Sha2.{rounds}
+use Rattle.sha2.specs.Sizes.{sha256}
+use Rattle.sha256.specs.inner.State.{words256}
+use borrow.Author.Needs.{needs}
+use Rattle.sha256.proofs.last_rounds.Statement.{statement}
+use Rattle.sha256.proofs.last_rounds.Tie as tie
+
+abbrev Inv-loop : tie.InvT-loop
+Inv-loop k w v₀ t₀ v t =
+    (t ≤ 64) × (t % 4 ≡ 0) × ((h : List ℕ) → words256 v₀ ≡ rounds sha256 w 48 h → words256 v ≡ rounds sha256 w t h)
+
+abbrev μ-loop : tie.MeasureT-loop
+μ-loop k w v₀ t₀ v t = 64 - t
+
+loop-holds : tie.Need-loop-holds Inv-loop μ-loop
+loop-holds c = (omega arith, refl, λ h e. e)
+
+loop-again : tie.Need-loop-again Inv-loop μ-loop
+loop-again c =
+    let l = c .before .before .loop in
+    (omega arith, omega arith, λ h e. c .four .ensures h (l .inv .2 h e))
+
+returns : tie.Need-returns Inv-loop μ-loop
+returns c =
+    let l = c .before .loop in
+    let e : l .t ≡ 64 = omega arith in
+    λ h f. rw e at (l .inv .2 h f)
+
+pub last-rounds-spec : {M : Type 1} → statement M
+last-rounds-spec =
+    tie.close
+    (tie.spec
+    Inv-loop
+    μ-loop
+    loop-holds
+    (λ c κs. search needs)
+    (λ c. search needs)
+    (λ c. search needs)
+    loop-again
+    returns)
