@@ -1,47 +1,30 @@
 use borrow.Author.Needs.{needs}
+use Rattle.key_record.proofs.Judge.{window-told}
 use Rattle.key_record.proofs.judging.window_in.Statement.{statement}
 use Rattle.key_record.proofs.judging.window_in.Tie as tie
-use Rattle.key_record.proofs.judging.window_in.Reads as reads
-use Rattle.key_record.proofs.judging.window_in.Lts as lts
-use Rattle.octets.proofs.read_be64.Reads as read-be64-reads
 
-sub-read-be64 : tie.Need-sub-read-be64
-sub-read-be64 c = search needs
+-- ---- points of the program, each reached from a later one
 
-part-read-be64-start : tie.Need-part-read-be64-start
-part-read-be64-start c = search needs
+abbrev to-start : tie.After-read-be642 → tie.Start
+to-start c = c .before .before .before .before .before
 
-part-read-be64-end : tie.Need-part-read-be64-end
-part-read-be64-end c = search needs
-
-read-be64-requires : tie.Need-read-be64-requires
-read-be64-requires c κs = search needs
-
-sub-read-be64-2 : tie.Need-sub-read-be64-2
-sub-read-be64-2 c = search needs
-
-part-read-be64-start-2 : tie.Need-part-read-be64-start-2
-part-read-be64-start-2 c = search needs
-
-part-read-be64-end-2 : tie.Need-part-read-be64-end-2
-part-read-be64-end-2 c = search needs
-
-read-be64-requires-2 : tie.Need-read-be64-requires-2
-read-be64-requires-2 c κs = search needs
+-- ----
 
 returns : tie.Need-returns
-returns c = search needs
+returns c =
+    let at-start = to-start c in
+    window-told (at-start .args .row .now) _ _ (c .before .before .read-be64 .ensures) (c .read-be642 .ensures)
 
 pub window-in-spec : {M : Type 1} → statement M
 window-in-spec =
     tie.close
     (tie.spec
-    sub-read-be64
-    part-read-be64-start
-    part-read-be64-end
-    read-be64-requires
-    sub-read-be64-2
-    part-read-be64-start-2
-    part-read-be64-end-2
-    read-be64-requires-2
+    (λ c. search needs)
+    (λ c. search needs)
+    (λ c. search needs)
+    (λ c κs. search needs)
+    (λ c. search needs)
+    (λ c. search needs)
+    (λ c. search needs)
+    (λ c κs. search needs)
     returns)
