@@ -13,6 +13,7 @@ use Rattle.octets.specs.Octets.{Octets, number, bytes, same}
 use Rattle.octets.proofs.Laws.{bytes-length, bytes-octets, number-bytes, number-append, number-lt, octets-append, octets-take, octets-drop, octets-replicate, same-refl, same-eq}
 use Rattle.window.specs.Window.{fresh, fits as inOrder}
 use Rattle.window.specs.declared.Window.{Window}
+use Rattle.window.proofs.Laws.{fresh-fits}
 use Rattle.key_record.specs.Layout.{recordSize, keyRoom, sendingMark, receivingMark, retiredMark, layoutVersion, spentByte, windowBytes, ending, row, encode, counterIn, windowIn, decode, fits, obeys, markAt, suiteAt, kidAt, counterAt, saltAt, keyAt, highestAt, maskAt}
 use Rattle.key_record.specs.Record.{ceiling, KeyRecord, empty, sending, receiving, retired}
 use Rattle.answers.proofs.Basics.{Two, yes′, no′, two, both-true, both-and}
@@ -37,6 +38,9 @@ pub record InRange (w : Window) : Type 0 where
   pub in-order : inOrder w ≡ true
   pub highest-below : w .highest < 2 ^ 64
   pub mask-below : w .mask < 2 ^ 64
+
+pub fresh-in-range : InRange fresh
+fresh-in-range = record { in-order = fresh-fits; highest-below = omega arith; mask-below = omega arith }
 
 abbrev pub Fit : KeyRecord → Type 0
 Fit empty = Unit {0}

@@ -322,6 +322,10 @@ module _ (w : Window) (ctr : ℕ) where
           ap (λ (x : Window). leb (k + span) (x .highest)) (moved-newer h) ∙ le-leb (k + span) ctr (omega (arith, leb-true (k + span) (w .highest) e))
       by (no′ t) = ap (λ (x : Window). leb (k + span) (x .highest)) (moved-older (ltb-false (w .highest) ctr t)) ∙ e
 
+pub fresh-fits : fits fresh ≡ true
+unfolding fits
+fresh-fits = refl
+
 -- a window that has opened none tells of none
 pub fresh-opens : (k : ℕ) → (seen fresh k ≡ false) × (tooOld fresh k ≡ false)
 unfolding seen tooOld
