@@ -299,10 +299,10 @@ unfolding report
 report-store s kid = settled-store _ s [] _ refl
 
 -- the event of a call is known once it is known whether the call answered 0
-happened : (n : ℕ) (e : Event) → n ≡ 0 → pick (eqb n 0) e other ≡ e
+pub happened : (n : ℕ) (e : Event) → n ≡ 0 → pick (eqb n 0) e other ≡ e
 happened n e z = rw (eq-eqb n 0 z)
 
-passed-by : (n : ℕ) (e : Event) → (n ≡ 0 → ⊥) → pick (eqb n 0) e other ≡ other
+pub passed-by : (n : ℕ) (e : Event) → (n ≡ 0 → ⊥) → pick (eqb n 0) e other ≡ other
 passed-by n e d = rw (ne-eqb n 0 d)
 
 module _ (cipher : Cipher) (h : History) (i : Inv cipher h) where

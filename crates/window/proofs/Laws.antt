@@ -200,6 +200,11 @@ module _ (w : Window) (ctr k : ℕ) where
       in
       rw (le-leb k ctr (omega arith), lt-ltb (ctr - k) span near-by, le-leb k (w .highest) le, lt-ltb (w .highest - k) span (omega arith)) (ap (λ (x : ℕ). eqb x 1) b)
 
+-- what is too old is not told as opened
+pub old-unseen : (w : Window) (k : ℕ) → tooOld w k ≡ true → seen w k ≡ false
+unfolding seen tooOld
+old-unseen w k e = let h = leb-true (k + span) (w .highest) e in rw (le-leb k (w .highest) (omega arith), le-ltb (w .highest - k) span (omega arith))
+
 -- ---- a window that moves
 
 module _ (w : Window) (ctr : ℕ) where
