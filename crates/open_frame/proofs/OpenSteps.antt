@@ -313,10 +313,12 @@ module _ (s m f room : List ℕ) (kid : Kid) (ctr : Ctr) (n : ℕ) (is-sound : s
           unfolding openAt
           open-done o t e =
               let a = told in
-              let opens = here ∙ settled-done _ s room _ none-apply in
-              ((a .0, a .1), (
-                e ∙ ap (λ (v : KeyRecord). encodeAll (set (records s) i (noted (ctr .0) v))) (sym (r .1))
-                ∙ ap encodeAll (sym (put-at (kid .0) (noted (ctr .0) (decode l)) (records s) i (sound-stored s o is-sound .table .kids-apart) (found .2)))
-                ∙ sym (ap (λ (v : Outcome). v .store) opens),
-                a .2,
-              ))
+              let opens = here ∙ settled-done _ s room _ none-apply in (
+                (a .0, a .1),
+                (
+                  e ∙ ap (λ (v : KeyRecord). encodeAll (set (records s) i (noted (ctr .0) v))) (sym (r .1))
+                      ∙ ap encodeAll (sym (put-at (kid .0) (noted (ctr .0) (decode l)) (records s) i (sound-stored s o is-sound .table .kids-apart) (found .2)))
+                      ∙ sym (ap (λ (v : Outcome). v .store) opens),
+                  a .2,
+                ),
+              )

@@ -132,10 +132,11 @@ module _ (cipher : Cipher) (laws : Laws cipher) (s t : List ℕ) (kid place : �
       let on-s = seal-at cipher laws s kid place (a .s-octets) (a .s-sound) (a .holds-kid) metadata plaintext offset room in
       let on-t = seal-at cipher laws t kid place (a .t-octets) (a .t-sound) (t-holds s t kid place a) metadata plaintext offset room ∙ ap (λ (x : KeyRecord). sealAt cipher true x (records t) t kid metadata plaintext offset room) (sym (a .alike)) in
       let g : Agree (sealAt cipher true held (records s) s kid metadata plaintext offset room) (sealAt cipher true held (records t) t kid metadata plaintext offset room) = settled-agree _ s t room _ _ (refl, refl, refl) in
-      same-answer s t kid place a advanced (seal cipher s kid metadata plaintext offset room) (seal cipher t kid metadata plaintext offset room)
-      (ap (λ (o : Outcome). o .number) on-s ∙ g .0 ∙ sym (ap (λ (o : Outcome). o .number) on-t),
-      ap (λ (o : Outcome). o .written) on-s ∙ g .1 ∙ sym (ap (λ (o : Outcome). o .written) on-t),
-      ap (λ (o : Outcome). o .room) on-s ∙ g .2 ∙ sym (ap (λ (o : Outcome). o .room) on-t))
+      same-answer s t kid place a advanced (seal cipher s kid metadata plaintext offset room) (seal cipher t kid metadata plaintext offset room) (
+        ap (λ (o : Outcome). o .number) on-s ∙ g .0 ∙ sym (ap (λ (o : Outcome). o .number) on-t),
+        ap (λ (o : Outcome). o .written) on-s ∙ g .1 ∙ sym (ap (λ (o : Outcome). o .written) on-t),
+        ap (λ (o : Outcome). o .room) on-s ∙ g .2 ∙ sym (ap (λ (o : Outcome). o .room) on-t),
+      )
       (seal-changed cipher laws s kid place (a .s-octets) (a .s-sound) (a .holds-kid) metadata plaintext offset room)
       (seal-changed cipher laws t kid place (a .t-octets) (a .t-sound) (t-holds s t kid place a) metadata plaintext offset room)
 
@@ -167,9 +168,10 @@ module _ (cipher : Cipher) (s t : List ℕ) (place : ℕ) (metadata bytes room :
       let on-s = open-at cipher s place (a .s-octets) (a .s-sound) metadata bytes room ob (a .holds-kid) in
       let on-t = open-at cipher t place (a .t-octets) (a .t-sound) metadata bytes room ob th ∙ ap (λ (x : KeyRecord). openAt cipher true (readHeader bytes) x (records t) t metadata bytes room) (sym (a .alike)) in
       let g : Agree (openAt cipher true (readHeader bytes) held (records s) s metadata bytes room) (openAt cipher true (readHeader bytes) held (records t) t metadata bytes room) = settled-agree _ s t room _ _ (refl, refl, refl) in
-      same-answer s t (readKid (readHeader bytes)) place a (noted (readCtr (readHeader bytes))) (opening cipher s metadata bytes room) (opening cipher t metadata bytes room)
-      (ap (λ (o : Outcome). o .number) on-s ∙ g .0 ∙ sym (ap (λ (o : Outcome). o .number) on-t),
-      ap (λ (o : Outcome). o .written) on-s ∙ g .1 ∙ sym (ap (λ (o : Outcome). o .written) on-t),
-      ap (λ (o : Outcome). o .room) on-s ∙ g .2 ∙ sym (ap (λ (o : Outcome). o .room) on-t))
+      same-answer s t (readKid (readHeader bytes)) place a (noted (readCtr (readHeader bytes))) (opening cipher s metadata bytes room) (opening cipher t metadata bytes room) (
+        ap (λ (o : Outcome). o .number) on-s ∙ g .0 ∙ sym (ap (λ (o : Outcome). o .number) on-t),
+        ap (λ (o : Outcome). o .written) on-s ∙ g .1 ∙ sym (ap (λ (o : Outcome). o .written) on-t),
+        ap (λ (o : Outcome). o .room) on-s ∙ g .2 ∙ sym (ap (λ (o : Outcome). o .room) on-t),
+      )
       (open-changed cipher s place (a .s-octets) (a .s-sound) metadata bytes room ob (a .holds-kid))
       (open-changed cipher t place (a .t-octets) (a .t-sound) metadata bytes room ob th)

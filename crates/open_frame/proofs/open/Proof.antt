@@ -20,6 +20,9 @@ to-slice-known c = c .before .before .before .before .before
 abbrev to-shared-slice-known : tie.After-is-sound → tie.After-shared-slice-known
 to-shared-slice-known c = c .before .before .before .before
 
+abbrev to-else1 : tie.After-find-arg → tie.Else1
+to-else1 c = c .before .before .before .before .before
+
 abbrev to-read-header : tie.After-find → tie.After-read-header
 to-read-header c = c .before .before .before .before .before
 
@@ -61,7 +64,7 @@ returns-2 c =
 
 find-requires : tie.Need-find-requires
 find-requires c κs =
-    let at-else1 = c .before .before .before .before .before in
+    let at-else1 = to-else1 c in
     let at-start = to-slice-known (at-else1 .before) .before in
     tested-whole (at-start .args .store .now) (store-octets (at-else1 .before)) _ (at-else1 .before .is-sound .ensures) (at-else1 .if1 .left)
 

@@ -11,6 +11,9 @@ use Rattle.report_window.proofs.report.Tie as tie
 
 -- ---- points of the program, each reached from a later one
 
+abbrev to-start-from-refused : tie.After-refused → tie.Start
+to-start-from-refused c = c .before .before .before .before
+
 abbrev to-start : tie.Else1 → tie.Start
 to-start c = c .before .before .before
 
@@ -27,7 +30,7 @@ store-sound c = tested-sound (to-start c .args .store .now) (λ j. omega (arith,
 
 returns : tie.Need-returns
 returns c =
-    let at-start = c .before .before .before .before in
+    let at-start = to-start-from-refused c in
     let q = report-unsound (at-start .args .store .now) _ _ (c .before .before .is-sound .ensures) (c .before .if1 .taken) in (c .refused .ensures .0 ∙ q .0, c .refused .ensures .1 ∙ q .1)
 
 find-requires : tie.Need-find-requires
