@@ -2,7 +2,7 @@
 use mathlib.Core.Path.{_≡_, refl, sym, _∙_, ap, ap₂}
 use mathlib.Core.Bool.{Bool, true, false, not, false≢true}
 use mathlib.Core.List.{List, [], _∷_, _++_, append-assoc, append-nil}
-use Prim.Native.Nat.{ℕ, suc, _+_, _-_, _<_, _≤_}
+use Prim.Native.Nat.{ℕ, _+_, _-_, _<_, _≤_}
 use native.Mathlib.Omega.{arith}
 use lib.Dec.{leb, eqb}
 use lib.ListN.{length, getD, set, take, drop, replicate, length-append, length-take, length-drop, length-replicate, drop-of-length-le}
@@ -20,10 +20,10 @@ use Rattle.suites.specs.declared.sizes.Found.{Found}
 use Rattle.suites.specs.declared.sizes.Found.the-variants.{Known, Unknown}
 use Rattle.suites.proofs.Laws.{Nk-most, key-length, salt-length}
 use Rattle.window.specs.Window as Replay
-use Rattle.window.specs.Window.{seen, tooOld, moved}
+use Rattle.window.specs.Window.{moved}
 use Rattle.window.specs.declared.Window.{Window}
-use Rattle.key_record.specs.Layout.{recordSize, markAt, suiteAt, spentAt, kidAt, counterAt, saltAt, keyAt, highestAt, maskAt, keyRoom, sendingMark, receivingMark, retiredMark, layoutVersion, spentByte, windowBytes, ending, row, encode, counterIn, windowIn, decode, SpentByte}
-use Rattle.key_record.specs.Record.{ceiling, SendingKey, ReceivingKey, KeyRecord, empty, sending, receiving, retired, isEmpty, isSending, isReceiving, kidOf, holds, suiteOf, saltOf, keyOf, counterOf, windowOf, advanced, noted}
+use Rattle.key_record.specs.Layout.{recordSize, markAt, suiteAt, spentAt, kidAt, counterAt, saltAt, keyAt, highestAt, maskAt, sendingMark, receivingMark, retiredMark, layoutVersion, spentByte, windowBytes, ending, row, encode, counterIn, windowIn, decode, SpentByte}
+use Rattle.key_record.specs.Record.{ceiling, SendingKey, KeyRecord, empty, sending, receiving, retired, isEmpty, isSending, isReceiving, kidOf, holds, suiteOf, saltOf, keyOf, counterOf, windowOf, advanced, noted}
 use Rattle.key_record.specs.Suites.{isSuite, keySize, saltSize}
 use Rattle.key_record.specs.inner.Judging.{holdingMark, lastCounter, newRow, retiredRow}
 use Rattle.key_record.specs.inner.Rows.{Row, Numbered, kindOf, hasKey, counterLeft, markFor, fresh, kept}

@@ -12,7 +12,7 @@ use lib.Seq.{take-at, drop-at, drop-drop, drop-append-le, take-add, take-suc, ta
 use borrow.Author.Tests.{leb-true, le-leb, eq-eqb, ne-eqb, eqb-true, eqb-false}
 use Rattle.octets.specs.Octets.{Octets, number, bytes, pasted, same, both}
 use Rattle.octets.proofs.Bits.{or-zero}
-use Rattle.octets.proofs.Laws.{part-rest, bytes-length, bytes-number, number-lt, octets-drop, same-refl, same-eq, same-count}
+use Rattle.octets.proofs.Laws.{bytes-length, bytes-number, number-lt, octets-drop, same-refl, same-eq, same-count}
 use Rattle.window.specs.Window.{fresh, fits as inOrder}
 use Rattle.window.specs.declared.Window.{Window}
 use Rattle.key_record.specs.inner.Judging.{holdingMark, counterFits, windowFits, zerosFrom, fieldsFit}

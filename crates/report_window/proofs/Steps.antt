@@ -1,5 +1,5 @@
 -- What a report answers, cause by cause, over plain variables. Assumes nothing.
-use mathlib.Core.Path.{_≡_, refl, sym, _∙_, ap}
+use mathlib.Core.Path.{_≡_, sym, _∙_, ap}
 use mathlib.Core.Bool.{Bool, true, false, not}
 use mathlib.Core.List.{List}
 use Prim.Native.Nat.{ℕ}
@@ -9,8 +9,8 @@ use Rattle.answers.proofs.Basics.{told-false, told-true}
 use Rattle.window.specs.Window.{opened}
 use Rattle.window.specs.declared.Window.{Window}
 use Rattle.key_record.specs.Layout.{decode}
-use Rattle.key_record.specs.Record.{KeyRecord, empty, isEmpty, isReceiving, windowOf}
-use Rattle.key_record.proofs.KindLaws.{holds-some, receives-held}
+use Rattle.key_record.specs.Record.{empty, isEmpty, isReceiving, windowOf}
+use Rattle.key_record.proofs.KindLaws.{holds-some}
 use Rattle.store.specs.Store.{records, sound}
 use Rattle.store.specs.Table.{get, FoundIn}
 use Rattle.store.specs.inner.Places.{RowOf}

@@ -33,7 +33,7 @@ use Rattle.window.specs.Window.{moved}
 use Rattle.window.specs.declared.Window.{Window}
 use Rattle.seal_frame.specs.Frame.{frameWith, frame}
 use Rattle.sframe.specs.Promises.{kidOf, ctrOf, senders, keyFrom, saltFrom}
-use Rattle.sframe.specs.History.{Call, Add, Remove, Seal, Open, Report, Typed, AllTyped, Adding, Sealing, Opening, Event, added, sealed, opened, other, event, History, outcome, step, run, start}
+use Rattle.sframe.specs.History.{Call, Add, Remove, Seal, Open, Report, Typed, AllTyped, Adding, Sealing, Event, added, sealed, opened, other, event, History, outcome, step, run, start}
 use Rattle.key_record.specs.Suites.{isSuite}
 use Rattle.seal_frame.proofs.Seals.{next, Sealed, SealStep, seal-step}
 use Rattle.key_record.specs.declared.Role.{Role}

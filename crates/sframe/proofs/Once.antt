@@ -1,9 +1,9 @@
 -- No frame is opened twice under one Add: the window of a receiving record tells every counter that was opened since the record was
 -- added, as opened or as too old. Assumes nothing.
 use mathlib.Core.Path.{_≡_, refl, sym, _∙_, ap}
-use mathlib.Core.Bool.{Bool, true, false, false≢true}
+use mathlib.Core.Bool.{true, false, false≢true}
 use mathlib.Core.List.{List, [], _∷_, _++_}
-use Prim.Native.Nat.{ℕ, _^_}
+use Prim.Native.Nat.{ℕ}
 use lib.Dec.{eqb}
 use lib.ListN.{replicate}
 use borrow.Author.Tests.{eq-eqb, ne-eqb, eqb-true, eqb-false}
@@ -20,15 +20,15 @@ use Rattle.store.specs.Calls.{make, remove}
 use Rattle.store.specs.Cipher.{Cipher}
 use Rattle.store.specs.Table.{get, put, clear, fill}
 use Rattle.store.proofs.CipherLaws.{Laws}
-use Rattle.store.proofs.Keys.{make-stored, empties-get, RemoveStep, remove-step}
+use Rattle.store.proofs.Keys.{make-stored, RemoveStep, remove-step}
 use Rattle.store.proofs.Stores.{Stored, Change}
 use Rattle.add_key.specs.Add.{add, added as addedRecord}
 use Rattle.add_key.proofs.Adds.{AddStep, add-step}
 use Rattle.seal_frame.specs.Seal.{seal}
 use Rattle.seal_frame.proofs.Seals.{next, SealStep, seal-step}
 use Rattle.open_frame.specs.Open.{opening}
-use Rattle.open_frame.proofs.Opened.{Opened, OpenStep, open-step}
-use Rattle.sframe.specs.History.{Call, Add, Remove, Seal, Open, Report, Typed, AllTyped, Adding, Sealing, Opening, Event, added, sealed, opened, other, event, History, outcome, step, run, start}
+use Rattle.open_frame.proofs.Opened.{OpenStep, open-step}
+use Rattle.sframe.specs.History.{Call, Add, Remove, Seal, Open, Report, Typed, AllTyped, Opening, Event, added, sealed, opened, other, event, History, outcome, step, run, start}
 use Rattle.sframe.specs.Promises.{AddedIn, OpenedOnce}
 use Rattle.sframe.proofs.Ledger.{happened, passed-by, report-store}
 

@@ -16,7 +16,7 @@ use Rattle.store.specs.Cipher.{Cipher}
 use Rattle.key_record.specs.Record.{ReceivingKey, empty, receiving, holds}
 use Rattle.store.specs.Store.{encodeAll, records, sound}
 use Rattle.store.specs.Table.{put}
-use Rattle.window.specs.Window.{fresh, seen, tooOld, moved}
+use Rattle.window.specs.Window.{seen, tooOld, moved}
 use Rattle.window.specs.declared.Window.{Window}
 use Rattle.answers.specs.Limits.{maxPlaintext, maxMetadata}
 use Rattle.add_key.specs.Add.{barred}

@@ -1,13 +1,12 @@
 -- The steps of the functions, over plain variables. Assumes nothing.
-use mathlib.Core.Path.{_≡_, refl, sym, _∙_, ap}
-use mathlib.Core.Bool.{Bool, true, false}
-use Prim.Native.Nat.{ℕ, suc, _+_, _*_, _-_, _/_, _%_, _^_, _<_, _≤_}
+use mathlib.Core.Path.{_≡_, sym, _∙_, ap}
+use mathlib.Core.Bool.{true, false}
+use Prim.Native.Nat.{ℕ, _+_, _*_, _-_, _/_, _%_, _^_, _<_, _≤_}
 use native.Mathlib.Omega.{arith}
 use native.Mathlib.Nat.{mod-lt, mod-eq-of-lt, one-mul}
 use lib.Dec.{leb, ltb, eqb}
 use lib.Pow.{pow-lt, pow-mono, shr-lt, split}
 use borrow.Author.Tests.{lt-ltb, le-ltb, le-leb, lt-leb, eq-eqb, ne-eqb, ltb-true, ltb-false, leb-true, leb-false}
-use Rattle.octets.specs.Octets.{pick, both}
 use Rattle.answers.proofs.Basics.{Two, yes′, no′, two}
 use Rattle.window.specs.Window.{span, bit, fits, seen, tooOld, moved}
 use Rattle.window.specs.declared.Window.{Window}

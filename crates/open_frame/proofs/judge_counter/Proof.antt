@@ -1,5 +1,4 @@
 use mathlib.Core.Path.{sym, _∙_, ap}
-use mathlib.Core.Bool.{Bool}
 use borrow.Author.Needs.{needs}
 use Rattle.window.specs.Window.{seen, tooOld}
 use Rattle.window.specs.declared.Window.{Window}

@@ -3,8 +3,6 @@ use mathlib.Core.Bool.{true}
 use native.Mathlib.Omega.{arith}
 use borrow.Author.Needs.{needs}
 use Rattle.octets.specs.Octets.{Octets}
-use Rattle.header.specs.Header.{readHeader}
-use Rattle.header.specs.declared.Reading.the-variants.{Header}
 use Rattle.header.proofs.Laws.{header-read}
 use Rattle.store.specs.Store.{sound}
 use Rattle.store.proofs.Places.{tested-sound, tested-whole, found-within}

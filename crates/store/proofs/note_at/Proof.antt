@@ -1,9 +1,9 @@
-use mathlib.Core.Path.{refl, sym, _∙_, ap}
-use Prim.Native.Nat.{ℕ, _+_, _*_, _<_, _≤_}
+use mathlib.Core.Path.{refl, _∙_, ap}
+use Prim.Native.Nat.{_+_, _*_, _≤_}
 use native.Mathlib.Omega.{arith}
 use lib.ListN.{length}
 use borrow.Author.Needs.{needs}
-use Rattle.key_record.specs.Layout.{recordSize, encode, decode}
+use Rattle.key_record.specs.Layout.{recordSize, encode}
 use Rattle.window.specs.Window.{seen, tooOld}
 use Rattle.key_record.specs.Record.{KeyRecord, isReceiving, windowOf, noted}
 use Rattle.store.proofs.Places.{place-inside, place-row, place-changed}
