@@ -41,7 +41,7 @@ use Rattle.store.proofs.Stores.{sound-stored}
 use Rattle.store.proofs.Tables.{put-at}
 use Rattle.window.specs.Window.{seen, tooOld}
 use Rattle.window.specs.declared.Window.{Window}
-use Rattle.open_frame.specs.Open.{plainOf, isDiffers, plainLength, decrypted, openCauses, causesOfOpen, openAt, opening}
+use Rattle.open_frame.specs.Open.{plainOf, plainLength, decrypted, openCauses, causesOfOpen, openAt, opening}
 use Rattle.open_frame.specs.inner.Counters.{counterAnswer}
 use Rattle.open_frame.specs.inner.Rooms.{roomFor}
 use Rattle.open_frame.specs.declared.Room.{Room}
@@ -162,13 +162,15 @@ module _ (held : KeyRecord) (m f room : List ℕ) (kid : Kid) (ctr : Ctr) (n : �
       -- what the window has against the counter comes before the tag
       by-window : (k : ℕ) → counterAnswer (windowOf held) (ctr .0) ≡ suc k → first (causesOfOpen sframe true (Header kid ctr n) held m f room) ≡ suc k
       unfolding causesOfOpen openCauses counterAnswer first plainLength
-      by-window k q = rw (there, gets, nt, le-ltb (length f - n) (Nt s) h, ← e, le-ltb (length room) (length f - n - Nt s) r) (past (two (seen (windowOf held) (ctr .0))) (two (tooOld (windowOf held) (ctr .0))))
+      by-window k q =
+          rw (there, gets, nt, le-ltb (length f - n) (Nt s) h, ← e, le-ltb (length room) (length f - n - Nt s) r)
+          (past _ (two (seen (windowOf held) (ctr .0))) (two (tooOld (windowOf held) (ctr .0))))
         where
-          past : Two (seen (windowOf held) (ctr .0)) → Two (tooOld (windowOf held) (ctr .0))
-              → pick (seen (windowOf held) (ctr .0)) alreadyOpened (pick (tooOld (windowOf held) (ctr .0)) counterTooOld (pick (isDiffers (decrypted sframe (Header kid ctr n) held m f)) tagDiffers 0)) ≡ suc k
-          past (yes′ a) b = rw a (rw a at q)
-          past (no′ a) (yes′ b) = rw (a, b) (rw (a, b) at q)
-          past (no′ a) (no′ b) = absurd (no-number k (rw (a, b) at q))
+          past : (rest : ℕ) → Two (seen (windowOf held) (ctr .0)) → Two (tooOld (windowOf held) (ctr .0))
+              → pick (seen (windowOf held) (ctr .0)) alreadyOpened (pick (tooOld (windowOf held) (ctr .0)) counterTooOld rest) ≡ suc k
+          past rest (yes′ a) b = rw a (rw a at q)
+          past rest (no′ a) (yes′ b) = rw (a, b) (rw (a, b) at q)
+          past rest (no′ a) (no′ b) = absurd (no-number k (rw (a, b) at q))
 
       pub counter-refused : (k : ℕ) → k ≡ counterAnswer (windowOf held) (ctr .0) → (k ≡ done → ⊥)
           → ((k ≡ openAt sframe true (Header kid ctr n) held [] [] m f room .number) × (0 ≡ openAt sframe true (Header kid ctr n) held [] [] m f room .written))
