@@ -101,8 +101,8 @@ module _ (cipher : Cipher) where
     pub metadata-most : length metadata ≤ maxMetadata
     pub room-enough : length bytes - n - tagSize (r .suite) ≤ length room
 
-  -- .. a frame is answered with 14 exactly when the held record's window has seen its counter, and with 15 exactly when that lies too
-  -- far below the highest.
+  -- .. a frame that has a tag is answered with 14 exactly when the held record's window w has seen its counter, and with 15 exactly
+  -- when that lies too far below the highest.
   pub record WindowCauses (s metadata bytes room : List ℕ) (w : Window) (ctr : ℕ) : Type 0 where
     pub opened-before : (opening cipher s metadata bytes room .number ≡ alreadyOpened) ↔ (seen w ctr ≡ true)
     pub too-old : (opening cipher s metadata bytes room .number ≡ counterTooOld) ↔ (tooOld w ctr ≡ true)
