@@ -1,5 +1,7 @@
 pub mod CipherLaws
 pub mod Keys
+mod Moves
+pub mod Order
 pub mod Places
 mod Removal
 pub mod Stores

@@ -12,7 +12,7 @@ use Rattle.store.specs.Cipher.{Cipher}
 use Rattle.key_record.specs.Record.{KeyRecord, empty, sending, receiving, retired, isEmpty, isRetired}
 use Rattle.store.specs.Store.{lengthRight, encodeAll, records, sound}
 use Rattle.key_record.specs.Suites.{isSuite}
-use Rattle.store.specs.Table.{get, put, clear, fill, full}
+use Rattle.store.specs.Table.{get, put, without}
 use Rattle.key_record.specs.declared.Role.{Role}
 use Rattle.key_record.specs.declared.Role.the-variants.{Sending, Receiving}
 
@@ -31,11 +31,11 @@ make s = settled (first ((storeInvalid if not (lengthRight (length s))) ∷ []))
 unfoldable pub removeCauses : Bool → KeyRecord → List Cause
 removeCauses valid held = (storeInvalid if not valid) ∷ (kidMissing if isEmpty held) ∷ (roleRefused if isRetired held) ∷ []
 
--- The table without a key: a receiving one's record is free again, a sending one's is retired for good.
+-- The table without a key: a receiving one's record goes and the gap closes, a sending one's is retired for good where it stands.
 unfoldable pub removed : (held : KeyRecord) (kid : ℕ) (rs : List KeyRecord) → List KeyRecord
 removed empty kid rs = rs
 removed (sending r) kid rs = put kid (retired (record { suite = r .suite; kid = r .kid; counter = r .counter })) rs
-removed (receiving r w) kid rs = clear kid rs
+removed (receiving r w) kid rs = without kid rs
 removed (retired r) kid rs = rs
 
 unfoldable pub removeAt : (valid : Bool) (rs : List KeyRecord) (s : List ℕ) (kid : ℕ) → Outcome
