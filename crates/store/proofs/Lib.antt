@@ -1,4 +1,5 @@
 pub mod CipherLaws
+mod Finds
 pub mod Keys
 mod Moves
 pub mod Order

@@ -7,7 +7,7 @@ use native.Mathlib.Omega.{arith}
 use lib.ListN.{length, getD, set}
 use borrow.Author.Tests.{eq-eqb, ne-eqb, eqb-true}
 use Rattle.key_record.specs.Record.{KeyRecord, empty, sending, receiving, retired, isEmpty, holds}
-use Rattle.store.specs.Table.{get, put, alone, apart}
+use Rattle.store.specs.Table.{get, put, alone, apart, placeOf}
 use Rattle.key_record.proofs.KindLaws.{holds-some}
 use Rattle.answers.proofs.Basics.{Two, yes′, no′, two, both-true, both-and}
 
@@ -151,3 +151,11 @@ module _ (kid : ℕ) where
   put-at r (x ∷ xs) (suc i) a h =
       let b = apart-cons x xs a .1 in
       put-there kid r x xs (passed x xs i a h (get-at xs i b h)) ∙ ap (λ (t : List KeyRecord). x ∷ t) (put-at r xs i b h)
+
+  pub place-is : (rs : List KeyRecord) (i : ℕ) → apart rs ≡ true → holds kid (getD rs i empty) ≡ true → placeOf kid rs ≡ i
+  unfolding placeOf
+  place-is [] i a h = absurd (false≢true (sym (holds-empty kid) ∙ h))
+  place-is (x ∷ xs) zero a h = rw h
+  place-is (x ∷ xs) (suc i) a h =
+      let b = apart-cons x xs a .1 in
+      rw (passed x xs i a h (get-at xs i b h)) (ap suc (place-is xs i b h))

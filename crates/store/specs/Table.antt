@@ -3,7 +3,7 @@
 use mathlib.Core.Path.{_≡_}
 use mathlib.Core.Bool.{Bool, true, false}
 use mathlib.Core.List.{List, [], _∷_, _++_}
-use Prim.Native.Nat.{ℕ, _<_}
+use Prim.Native.Nat.{ℕ, suc, _<_}
 use lib.ListN.{length, getD, take}
 use Rattle.octets.specs.Octets.{pick, both}
 use Rattle.key_record.specs.Record.{KeyRecord, empty, sending, receiving, retired, isEmpty, holds, inOrder}
@@ -56,6 +56,11 @@ alone (retired r) rs = isEmpty (get (r .kid) rs)
 unfoldable pub apart : List KeyRecord → Bool
 apart [] = true
 apart (r ∷ rs) = both (alone r rs) (apart rs)
+
+-- The place of the record that holds a KID: how many stand before it.
+unfoldable pub placeOf : ℕ → List KeyRecord → ℕ
+placeOf kid [] = 0
+placeOf kid (x ∷ xs) = pick (holds kid x) 0 (suc (placeOf kid xs))
 
 -- What is found of a KID: the number of the record that holds it, or that none does.
 abbrev pub FoundIn : (place : Place) (kid : ℕ) (rs : List KeyRecord) → Type 0

@@ -17,7 +17,7 @@ ghost use mathlib.Core.List.{[]};
 ghost use Prim.Native.Nat.{_/_, _<_, _≤_};
 ghost use lib.ListN.{length, getD, set};
 ghost use Rattle.answers.specs.Limits.{baseKeyMost};
-ghost use Rattle.store.specs.Calls.{make, remove};
+ghost use Rattle.store.specs.Calls.{make, remove, find, found};
 ghost use Rattle.key_record.specs.Layout.{recordSize};
 ghost use Rattle.key_record.specs.Record.{ceiling, empty, isSending, isReceiving, holds, counterOf, windowOf, advanced, noted};
 ghost use Rattle.store.specs.Store.{lengthRight, encodeAll, records, sound};
@@ -32,6 +32,12 @@ pub const MAX_RECORDS: usize = 1024;
 pub enum Place {
     At(usize),
     Nowhere,
+}
+
+// What a search by a caller answers: its number, and the place.
+pub struct Located {
+    pub number: u32,
+    pub place: usize,
 }
 
 // Whether a length is that of a store.
@@ -248,5 +254,27 @@ pub fn remove(store: &mut [u8], kid: Kid, place: usize) -> u32
         }
         Kind::Retired => ROLE_REFUSED,
         Kind::Empty => KID_MISSING,
+    }
+}
+
+// Finds the place of the record that holds a KID, for a caller to hand in later.
+pub fn locate(store: &[u8], kid: Kid) -> Located
+    ensures { λ r. ⌜ (r .number ≡ find (now (store .entry)) (kid .0) .number) × (r .place ≡ found (now (store .entry)) (kid .0)) ⌝ }
+{
+    if !is_sound(store) {
+        return Located {
+            number: STORE_INVALID,
+            place: 0,
+        };
+    }
+    let Place::At(i) = find(store, kid) else {
+        return Located {
+            number: KID_MISSING,
+            place: 0,
+        };
+    };
+    Located {
+        number: DONE,
+        place: i,
     }
 }
