@@ -6,7 +6,7 @@ use Prim.Native.Nat.{ℕ, zero, suc, _/_}
 use lib.ListN.{length, replicate}
 use Rattle.octets.specs.Octets.{Octets}
 use Rattle.answers.specs.Answers.{Outcome, settled}
-use Rattle.store.specs.Calls.{make, removeAt, remove}
+use Rattle.store.specs.Calls.{make, removeAt, remove, find}
 use Rattle.add_key.specs.Add.{addAt, add}
 use Rattle.store.specs.Cipher.{Cipher}
 use Rattle.key_record.specs.Record.{KeyRecord, empty}
@@ -71,7 +71,7 @@ unchanged (suc n) s room o z d = (refl, refl, refl)
 
 -- of any store, sound or not
 pub refusal-changes-nothing : (cipher : Cipher) (c : Call) (s : List ℕ) → (outcome cipher c s .number ≡ 0 → ⊥) → Unchanged c s (outcome cipher c s)
-unfolding outcome add addAt remove removeAt seal sealAt opening openAt report
+unfolding outcome add addAt remove removeAt seal sealAt opening openAt report find
 refusal-changes-nothing cipher (Add role kid suite base) s d = let u = unchanged _ s [] _ refl d in record { nothing-written = u .0; store-stays = u .1; room-stays = u .2 }
 refusal-changes-nothing cipher (Remove kid place) s d = let u = unchanged _ s [] _ refl d in record { nothing-written = u .0; store-stays = u .1; room-stays = u .2 }
 refusal-changes-nothing cipher (Seal kid place metadata plaintext offset room) s d = let u = unchanged _ s room _ refl d in record { nothing-written = u .0; store-stays = u .1; room-stays = u .2 }
