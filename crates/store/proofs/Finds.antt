@@ -14,8 +14,7 @@ use Rattle.store.specs.Table.{get, placeOf, FoundIn}
 use Rattle.store.specs.declared.Place.{Place}
 use Rattle.store.specs.declared.Place.the-variants.{At, Nowhere}
 use Rattle.store.proofs.Tables.{place-is}
-use Rattle.store.proofs.Order.{ordered-apart}
-use Rattle.store.proofs.Places.{sound-ordered}
+use Rattle.store.proofs.Places.{sound-apart}
 
 module _ (s : List ℕ) (kid : ℕ) (r : Bool) (e : r ≡ sound s) where
   pub find-unsound : not r ≡ true → (storeInvalid ≡ find s kid .number) × (0 ≡ found s kid)
@@ -36,4 +35,4 @@ module _ (s : List ℕ) (kid : ℕ) (r : Bool) (e : r ≡ sound s) where
         let g : FoundIn (At i) kid (records s) = rw w at f in
         let h = told-true r _ e t in
         let n : isEmpty (get kid (records s)) ≡ false = ap isEmpty (g .1) ∙ holds-some kid (getD (records s) i empty) (g .2) in
-        (rw (h, n), rw (h, n) (sym (place-is kid (records s) i (ordered-apart (records s) (sound-ordered s h)) (g .2))))
+        (rw (h, n), rw (h, n) (sym (place-is kid (records s) i (sound-apart s h) (g .2))))

@@ -15,7 +15,7 @@ use lib.Dec.{ltb}
 use borrow.Author.Tests.{ltb-true, ltb-false, eq-eqb}
 use Rattle.key_record.specs.Record.{KeyRecord, empty, holds}
 use Rattle.store.specs.Store.{lengthRight, encodeAll, decodeAll, allObey, records, sound}
-use Rattle.store.specs.Table.{insert, ordered, FoundIn}
+use Rattle.store.specs.Table.{insert, ordered, apart, FoundIn}
 use Rattle.store.specs.inner.Places.{Whole, Within, RowOf, rank, Insertable, closed}
 use Rattle.suites.specs.declared.sizes.Suite.{Suite}
 use Rattle.key_record.specs.inner.Rows.{fresh}
@@ -54,6 +54,10 @@ module _ (s : List ℕ) (e : sound s ≡ true) where
 
   pub sound-ordered : ordered (records s) ≡ true
   sound-ordered = both-true (allObey (length s / recordSize) s) (ordered (records s)) (parts .1) .1
+
+  -- no two non-empty records share a Key ID
+  pub sound-apart : apart (records s) ≡ true
+  sound-apart = ordered-apart (records s) sound-ordered
 
   pub sound-some : 1 ≤ length (records s)
   sound-some = omega (arith, length-right (length s) (parts .0) .least, records-count s)
@@ -126,7 +130,7 @@ module _ (s : List ℕ) (kid place : ℕ) where
   pub place-found : (b : Bool) → sound s ≡ true → b ≡ holds kid (getD (records s) place empty) → b ≡ true → FoundIn (At place) kid (records s)
   place-found b e q t =
       let h : holds kid (getD (records s) place empty) ≡ true = sym q ∙ t in
-      (inside h, get-at kid (records s) place (ordered-apart (records s) (sound-ordered s e)) h, h)
+      (inside h, get-at kid (records s) place (sound-apart s e) h, h)
     where
       inside : holds kid (getD (records s) place empty) ≡ true → place < length (records s)
       inside h = by (two (ltb place (length (records s))))
