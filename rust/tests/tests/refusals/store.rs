@@ -1,4 +1,4 @@
-//! Add, Remove, Seal and the report.
+//! Add, Remove, Find, Seal and the report.
 
 use super::held::{make_unsound, store, Held, HELD, KID};
 use super::seen::Seen;
@@ -18,6 +18,7 @@ const ADD: &[u32] = &[
 ];
 const REMOVE: &[u32] = &[STORE_NOT_SOUND, KID_UNKNOWN, WRONG_ROLE];
 const REPORT: &[u32] = REMOVE;
+const FIND: &[u32] = &[STORE_NOT_SOUND, KID_UNKNOWN];
 const SEAL: &[u32] = &[
     STORE_NOT_SOUND,
     KID_UNKNOWN,
@@ -110,6 +111,21 @@ fn report() {
         seen.check(&store, Call::Report { kid: KID }, causes);
     }
     seen.finish(&[(KID_UNKNOWN, WRONG_ROLE)]);
+}
+
+#[test]
+fn find() {
+    let mut seen = Seen::new(FIND);
+    for [suite, held, unsound] in combinations([5, 6, 2]) {
+        let (held, unsound) = (HELD[held], unsound == 1);
+        let mut store = store(SUITES[suite], held, 2);
+        if unsound {
+            make_unsound(&mut store);
+        }
+        let causes = [(STORE_NOT_SOUND, unsound), (KID_UNKNOWN, held == Held::Not)];
+        seen.check(&store, Call::Find { kid: KID }, causes);
+    }
+    seen.finish(&[]);
 }
 
 #[test]
