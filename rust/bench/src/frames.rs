@@ -20,7 +20,7 @@ pub fn run(csv: &Path) -> io::Result<()> {
     let mut generator = Generator::new(0x6265_6e63_6800_0002);
     println!(
         "frames: the store is judged and the key made ready anew for each frame. Full\n\
-         stores, the key in the last record; no metadata; headers of 5 bytes; plaintext,\n\
+         stores, the key in the last record; no metadata; headers of 6 bytes; plaintext,\n\
          store and room stay in place from frame to frame, so they are in the cache. One\n\
          frame is opened again and again: the window is set back before each opening,\n\
          within the time, to where the frame's counter is the next.\n\n\
