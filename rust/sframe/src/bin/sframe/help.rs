@@ -74,8 +74,8 @@ Frames are no longer safe once a key has used a counter twice. That happens with
 a copy of a store, with a store put back as it was before, say from a backup,
 and with a new store that gets the same keys for sending: never seal with these.
 For receiving, such a store opens frames again that were opened before. A store
-of an earlier version, whose records have 80 bytes, is refused (1): make a new
-one, and give it new keys.
+of an earlier version, whose records have 80 bytes or do not stand by rising key
+number, is refused (1): make a new one, and give it new keys.
 
 Exit status: 0 done; 1 to 15, 17, 20 and 21 refused, with these causes:
    1  the store is not sound, or not      9  plaintext above 32768 bytes, or
