@@ -1,5 +1,6 @@
 //! Times of the calls that the sealing layer offers.
 
+mod calls;
 #[cfg(has_earlier)]
 mod earlier;
 mod frames;
