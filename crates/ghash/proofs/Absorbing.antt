@@ -1,4 +1,4 @@
--- Laws of GHASH's table and of the blocks that it takes in.
+-- Laws of the blocks that GHASH takes in.
 -- Assumes nothing.
 use mathlib.Core.Path.{_≡_, ap, sym, _∙_}
 use mathlib.Core.List.{List, _++_}
@@ -10,33 +10,11 @@ use borrow.Author.Count.{below-more}
 use borrow.Rule.Slice.PartMut.{putMid}
 use lib.Bits.{bitXor}
 use lib.Pow.{high, low}
-use lib.ListN.{length, getD, set, take, drop, length-set, length-append, length-drop}
+use lib.ListN.{length, getD, set, take, drop, length-append, length-drop}
 use lib.Seq.{getD-set-same, getD-set-other, getD-append-add, getD-drop, drop-append-le}
 use Rattle.octets.specs.Octets.{number, bytes, pasted}
 use Rattle.octets.proofs.Laws.{number-append, part-rest, bytes-length, bytes-add, bytes-mod, lent-bytes, pasted-append, pasted-front}
-use Rattle.ghash.specs.Ghash.{sum, product, absorbBlocks, absorb, pair}
-use Rattle.ghash.specs.inner.HashKey.{Entries}
-
--- One entry more, written in two halves.
-pub entries-step : (h n hi lo : ℕ) (t : List ℕ) → n < 16 → pair hi lo ≡ sum 4 n h → Entries h n t
-    → Entries h (n + 1) (set (set t n hi) (16 + n) lo)
-entries-step h n hi lo t l e s =
-    let u : List ℕ = set t n hi in
-    let k : length u ≡ 32 = length-set t n hi ∙ s .sized in
-    let same : getD (set u (16 + n) lo) (16 + n) 0 ≡ lo = getD-set-same u (16 + n) lo 0 (omega arith) in
-    let top : getD (set u (16 + n) lo) n 0 ≡ hi =
-    getD-set-other u (16 + n) n lo 0 (omega arith) ∙ getD-set-same t n hi 0 (omega (arith, s .sized)) in
-    record {
-      sized = simp length-set (s .sized);
-      entry = below-more _ _ (λ j q. rw (kept-low j q, kept-high j q) (s .entry j q)) (rw (same, top) e);
-    }
-  where
-    kept-low : (j : ℕ) → j < n → getD (set (set t n hi) (16 + n) lo) (16 + j) 0 ≡ getD t (16 + j) 0
-    kept-low j q =
-        getD-set-other (set t n hi) (16 + n) (16 + j) lo 0 (omega arith) ∙ getD-set-other t n (16 + j) hi 0 (omega arith)
-
-    kept-high : (j : ℕ) → j < n → getD (set (set t n hi) (16 + n) lo) j 0 ≡ getD t j 0
-    kept-high j q = getD-set-other (set t n hi) (16 + n) j lo 0 (omega arith) ∙ getD-set-other t n j hi 0 (omega arith)
+use Rattle.ghash.specs.Ghash.{product, absorbBlocks, absorb, pair}
 
 pub append-after : (a b : List ℕ) (i : ℕ) → length a ≤ i → getD b (i - length a) 0 ≡ getD (a ++ b) i 0
 append-after a b i h =

@@ -1,3 +1,4 @@
-mod Products
+mod Halving
+mod Steps
 mod Absorbing
 pub mod Laws

@@ -1,26 +1,26 @@
-// GHASH (SP 800-38D §6.4), four bits at a time, by a table that is made once for each hash key.
+// GHASH (SP 800-38D §6.4). A product of blocks is taken as one of polynomials, by nine products of 32 bits after
+// Karatsuba, and reduced. There is no table: no index and no branch depends on a block or on the hash key.
 use aes::BLOCK;
 ghost use mathlib.Core.Path.{_≡_};
 ghost use mathlib.Core.List.{_++_};
-ghost use Prim.Native.Nat.{_+_, _*_, _/_, _^_, _≤_, _<_};
+ghost use Prim.Native.Nat.{_+_, _^_, _≤_, _<_};
 ghost use lib.Bits.{bitXor};
 ghost use lib.ListN.{length, getD, drop};
 ghost use Rattle.octets.specs.Octets.{number, bytes};
 ghost use Rattle.aes.specs.Aes.{blockSize};
-ghost use Rattle.ghash.specs.Ghash.{halve, sum, product, absorb};
-ghost use Rattle.ghash.specs.inner.HashKey.{valueOf, entries, HashKey, hashKeyOf};
+ghost use Rattle.clmul.specs.inner.Karatsuba.{karatsuba};
+ghost use Rattle.ghash.specs.Ghash.{halve, product, absorb};
+ghost use Rattle.ghash.specs.inner.HashKey.{valueOf, factorsOf, HashKey, hashKeyOf};
+ghost use Rattle.ghash.specs.inner.Products.{halves, factors, Products};
 
-// The entries of the table, one for each four bits.
-const ENTRIES: usize = 16;
+// The factors of 32 bits by which a product of blocks is taken.
+const FACTORS: usize = 9;
 
-// The words of the table, two for each entry.
-const TABLE_SIZE: usize = 2 * ENTRIES;
+// The last of them. Those before it are even in number, so that the compiler takes two of their products at a time.
+const LAST: usize = FACTORS - 1;
 
-// The groups of four bits in a block.
-const NIBBLES: usize = 2 * BLOCK;
-
-// The context of a hash key: the table, all high halves before all low ones.
-pub type HashKey = [u64; TABLE_SIZE];
+// The context of a hash key: the factors of the block whose half is the key.
+pub type HashKey = [u32; FACTORS];
 
 // A block, in two halves.
 pub struct Block {
@@ -38,95 +38,91 @@ pub fn plus(a: Block, b: Block) -> Block
     }
 }
 
-// V moved one bit to the right, and reduced.
-fn half(v: Block) -> Block
-    ensures { λ r. ⌜ valueOf r ≡ halve (valueOf v) ⌝ }
+// The block of which h is the half.
+fn doubled(h: Block) -> Block
+    ensures { λ r. ⌜ halve (valueOf r) ≡ valueOf h ⌝ }
 {
+    let top = h.hi / 0x8000_0000_0000_0000;
+    let rest = h.hi ^ top * 0xe100_0000_0000_0000;
     Block {
-        hi: v.hi / 2 ^ v.lo % 2 * 0xe100_0000_0000_0000,
-        lo: v.lo / 2 + v.hi % 2 * 0x8000_0000_0000_0000,
+        hi: rest * 2 + h.lo / 0x8000_0000_0000_0000,
+        lo: h.lo % 0x8000_0000_0000_0000 * 2 + top,
     }
 }
 
-// A block moved four bits to the right.
-fn shift_four(v: Block) -> Block
-    ensures { λ r. ⌜ valueOf r ≡ valueOf v / 16 ⌝ }
+// The factors of a block.
+fn factors(x: Block) -> [u32; FACTORS]
+    ensures { λ r. ⌜ r ≡ factorsOf (x .hi) (x .lo) ⌝ }
 {
-    Block {
-        hi: v.hi / 16,
-        lo: v.lo / 16 + v.hi % 16 * 0x1000_0000_0000_0000,
-    }
-}
-
-// Four times `half`, at once.
-fn half_four(v: Block) -> Block
-    ensures { λ r. ⌜ valueOf r ≡ halve (halve (halve (halve (valueOf v)))) ⌝ }
-{
-    let f = v.lo % 16;
-    let q = shift_four(v);
-    Block {
-        hi: q.hi
-            ^ f * 0x1000_0000_0000_0000
-            ^ f * 0x800_0000_0000_0000
-            ^ f * 0x400_0000_0000_0000
-            ^ f * 0x20_0000_0000_0000,
-        lo: q.lo,
-    }
-}
-
-// b where the bit is set, else zero.
-fn scaled(bit: u64, b: Block) -> Block
-    requires { ⌜ bit < 2 ⌝ }
-    ensures { λ r. ⌜ valueOf r ≡ bit * valueOf b ⌝ }
-{
-    Block {
-        hi: bit * b.hi,
-        lo: bit * b.lo,
-    }
-}
-
-// The sum of the blocks b and halves of it, over the four bits of n.
-fn entry_of(n: u64, h: Block) -> Block
-    requires { ⌜ n < entries ⌝ }
-    ensures { λ r. ⌜ valueOf r ≡ sum 4 n (valueOf h) ⌝ }
-{
-    let h2 = half(h);
-    let h3 = half(h2);
-    let h4 = half(h3);
-    plus(
-        scaled(n / 8 % 2, h),
-        plus(
-            scaled(n / 4 % 2, h2),
-            plus(scaled(n / 2 % 2, h3), scaled(n % 2, h4)),
-        ),
-    )
+    let a = (x.lo % 0x1_0000_0000) as u32;
+    let b = (x.lo / 0x1_0000_0000) as u32;
+    let c = (x.hi % 0x1_0000_0000) as u32;
+    let d = (x.hi / 0x1_0000_0000) as u32;
+    [a, b, a ^ b, c, d, c ^ d, a ^ c, b ^ d, (a ^ c) ^ (b ^ d)]
 }
 
 // The context of the hash key h.
 pub fn expand(h: Block) -> HashKey
     ensures { λ r. ⌜ HashKey (valueOf h) r ⌝ }
 {
-    let mut t = [0u64; TABLE_SIZE];
-    let mut n = 0;
-    while n < ENTRIES {
-        let e = entry_of(n as u64, h);
-        t[n] = e.hi;
-        t[ENTRIES + n] = e.lo;
-        n += 1;
-    }
-    t
+    factors(doubled(h))
 }
 
-// The entry for the four bits n.
-fn entry(t: &HashKey, n: usize) -> Block
-    requires { ⌜ HashKey (hashKeyOf (now t)) (now t) ⌝ }
-    requires { ⌜ n < entries ⌝ }
-    ensures { λ r. ⌜ valueOf r ≡ sum 4 n (hashKeyOf (now (t .entry))) ⌝ }
+// The products of the factors of x and those of the context.
+fn products(t: &HashKey, x: Block) -> [u64; FACTORS]
+    requires { ⌜ length (now t) ≡ factors ⌝ }
+    ensures { λ r. ⌜ Products (factorsOf (x .hi) (x .lo)) (now (t .entry)) factors r ⌝ }
 {
-    Block {
-        hi: t[n],
-        lo: t[ENTRIES + n],
+    let f = factors(x);
+    let mut p = [0u64; FACTORS];
+    let mut i = 0;
+    while i < LAST {
+        p[i] = clmul::multiply(f[i], t[i]);
+        i += 1;
     }
+    p[LAST] = clmul::multiply(f[LAST], t[LAST]);
+    p
+}
+
+// The product of 64 bits, from three of 32.
+fn join(low: u64, high: u64, both: u64) -> Block
+    ensures { λ r. ⌜ valueOf r ≡ karatsuba 32 low high both ⌝ }
+{
+    let mid = both ^ low ^ high;
+    Block {
+        hi: high ^ mid / 0x1_0000_0000,
+        lo: low ^ mid % 0x1_0000_0000 * 0x1_0000_0000,
+    }
+}
+
+// 64 times halved, at once: each bit of the low half falls out and is reduced.
+fn halved(v: Block) -> Block
+    ensures { λ r. ⌜ valueOf r ≡ halves 64 (valueOf v) ⌝ }
+{
+    let l = v.lo;
+    Block {
+        hi: l ^ l / 2 ^ l / 4 ^ l / 128,
+        lo: v.hi
+            ^ l % 2 * 0x8000_0000_0000_0000
+            ^ l % 4 * 0x4000_0000_0000_0000
+            ^ l % 128 * 0x200_0000_0000_0000,
+    }
+}
+
+// The product of 128 bits, from three of 64, 128 times halved.
+fn reduced(low: Block, high: Block, both: Block) -> Block
+    ensures { λ r. ⌜ valueOf r ≡ halves 128 (karatsuba 64 (valueOf low) (valueOf high) (valueOf both)) ⌝ }
+{
+    let mid = plus(plus(both, low), high);
+    let rest = Block {
+        hi: low.hi ^ mid.lo,
+        lo: low.lo,
+    };
+    let top = Block {
+        hi: high.hi,
+        lo: high.lo ^ mid.hi,
+    };
+    plus(top, halved(halved(rest)))
 }
 
 // The product of x and the hash key.
@@ -134,16 +130,12 @@ pub fn times(t: &HashKey, x: Block) -> Block
     requires { ⌜ HashKey (hashKeyOf (now t)) (now t) ⌝ }
     ensures { λ r. ⌜ valueOf r ≡ product (valueOf x) (hashKeyOf (now (t .entry))) ⌝ }
 {
-    let mut rest = x;
-    let mut z = Block { hi: 0, lo: 0 };
-    let mut i: usize = 0;
-    while i < NIBBLES {
-        let n = (rest.lo % 16) as usize;
-        z = plus(entry(t, n), half_four(z));
-        rest = shift_four(rest);
-        i += 1;
-    }
-    z
+    let p = products(t, x);
+    reduced(
+        join(p[0], p[1], p[2]),
+        join(p[3], p[4], p[5]),
+        join(p[6], p[7], p[8]),
+    )
 }
 
 // The bytes of the block at index i of a and then b, filled up with zeros.

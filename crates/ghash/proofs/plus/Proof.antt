@@ -1,7 +1,7 @@
 -- `ghash::plus` meets its contract: the XOR of the halves is the XOR of the blocks.
 -- Assumes nothing.
 use native.Mathlib.Omega.{arith}
-use Rattle.ghash.proofs.Products.{pair-sum}
+use Rattle.ghash.proofs.Halving.{pair-sum}
 use borrow.Author.Needs.{needs}
 use Rattle.ghash.proofs.plus.Statement.{statement}
 use Rattle.ghash.proofs.plus.Tie as tie

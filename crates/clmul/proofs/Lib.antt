@@ -1,0 +1,4 @@
+pub mod Sums
+pub mod Laws
+mod Holes
+mod Classes
