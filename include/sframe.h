@@ -95,7 +95,7 @@ enum sframe_answer {
     SFRAME_RATCHET_KID_INVALID = 20,
     /* More than SFRAME_MAX_STEPS steps. */
     SFRAME_TOO_MANY_STEPS = 21,
-    /* The sender's index, or the bits of the epoch, need more bits than their width. */
+    /* The sender's index, or the bits of the epoch, do not fit their width. */
     SFRAME_GROUP_PART_TOO_LARGE = 22,
     /* The widths are above 64 together, or the key number does not fit in 64 bits. */
     SFRAME_GROUP_KID_TOO_LONG = 23
