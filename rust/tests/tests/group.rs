@@ -41,7 +41,7 @@ fn published_key_numbers() {
     }
 }
 
-/// 2^n, or one less; as many bits as there are where n is 64 or more.
+/// 2^n and one less; where n is 64, the last two numbers.
 fn around(n: u64) -> [u64; 2] {
     let power = 1u64.checked_shl(n as u32).unwrap_or(u64::MAX);
     [power, power - 1]
@@ -52,32 +52,41 @@ fn around(n: u64) -> [u64; 2] {
 #[test]
 fn every_width() {
     for (s, e) in (0..=66).flat_map(|s| (0..=66).map(move |e| (s, e))) {
-        let fits = s + e <= 64;
-        let left = 64u64.saturating_sub(s + e);
-        let parts = |n: u64| [0, 1, u64::MAX].into_iter().chain(around(n));
+        if s + e > 64 {
+            for part in [0, 1, u64::MAX] {
+                let packed = compare_group_kid(part, part, part, s, e);
+                assert_eq!(packed.number, GROUP_KID_TOO_LONG);
+                let read = compare_group_parts(part, s, e);
+                assert_eq!(read.number, GROUP_KID_TOO_LONG);
+            }
+            continue;
+        }
+        let left = 64 - s - e;
+        let parts = |n| [0, u64::MAX].into_iter().chain(around(n));
         for index in parts(s) {
             for context in parts(left) {
                 for epoch in parts(e) {
-                    let packed = compare_group_kid(context, index, epoch, s, e);
-                    let expected = match () {
-                        () if !fits => GROUP_KID_TOO_LONG,
-                        () if s < 64 && index >> s != 0 => GROUP_PART_TOO_LARGE,
-                        () if left < 64 && context >> left != 0 => GROUP_KID_TOO_LONG,
-                        () => DONE,
-                    };
-                    assert_eq!(packed.number, expected);
-                    if expected == DONE {
-                        let read = compare_group_parts(packed.kid, s, e);
-                        let expected = (context, index, low_bits(epoch, e));
-                        assert_eq!((read.context, read.index, read.epoch), expected);
-                    }
+                    check_width(context, index, epoch, s, e);
                 }
             }
         }
-        for kid in [0, 1, 1 << 63, u64::MAX] {
-            let number = compare_group_parts(kid, s, e).number;
-            assert_eq!(number, if fits { DONE } else { GROUP_KID_TOO_LONG });
-        }
+    }
+}
+
+#[track_caller]
+fn check_width(context: u64, index: u64, epoch: u64, s: u64, e: u64) {
+    let left = 64 - s - e;
+    let packed = compare_group_kid(context, index, epoch, s, e);
+    let expected = match () {
+        () if low_bits(index, s) != index => GROUP_PART_TOO_LARGE,
+        () if low_bits(context, left) != context => GROUP_KID_TOO_LONG,
+        () => DONE,
+    };
+    assert_eq!(packed.number, expected);
+    if expected == DONE {
+        let read = compare_group_parts(packed.kid, s, e);
+        let expected = (context, index, low_bits(epoch, e));
+        assert_eq!((read.context, read.index, read.epoch), expected);
     }
 }
 
@@ -127,7 +136,7 @@ fn edges() {
 #[test]
 fn any_numbers() {
     let mut generator = Generator::new(0x6772_6f75_7000_0002);
-    for _ in 0..100_000 {
+    for _ in 0..30_000 {
         let [context, index, epoch, kid] = [(); 4].map(|()| generator.any_width());
         let (s, e) = match generator.one_in(10) {
             true => (generator.any_width(), generator.any_width()),
