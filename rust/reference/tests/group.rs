@@ -2,32 +2,19 @@
 
 use reference::group::{kid, parts, Parts};
 use reference::refusal::Refusal::*;
-use testkit::Generator;
-
-/// Epoch, index, context and KID in the figure of section 5.2: E = 4, S = 6.
-const FIGURE: [(u64, u64, u64, u64); 9] = [
-    (14, 3, 0, 0x3e),
-    (14, 7, 0, 0x7e),
-    (14, 20, 0, 0x14e),
-    (15, 3, 0, 0x3f),
-    (15, 5, 0, 0x5f),
-    (16, 2, 2, 0x820),
-    (16, 2, 3, 0xc20),
-    (17, 33, 0, 0x211),
-    (17, 51, 0, 0x331),
-];
+use testkit::{group_vectors, Generator};
 
 #[test]
 fn published_key_numbers() {
-    for (epoch, index, context, expected) in FIGURE {
-        assert_eq!(kid(context, index, epoch, 6, 4), Ok(expected));
-        let epoch = epoch % 16;
+    for case in group_vectors() {
+        let packed = kid(case.context, case.index, case.epoch, 6, 4);
+        assert_eq!(packed, Ok(case.kid));
         let read = Parts {
-            context,
-            index,
-            epoch,
+            context: case.context,
+            index: case.index,
+            epoch: case.epoch % 16,
         };
-        assert_eq!(parts(expected, 6, 4), Ok(read));
+        assert_eq!(parts(case.kid, 6, 4), Ok(read));
     }
 }
 

@@ -7,6 +7,7 @@ use sframe::{
     Metadata, Place, Refusal, Role, State, Store, StoreView, Suite, Window, MAX_COUNTER,
     MAX_METADATA, MAX_PLAINTEXT, MAX_RECORDS, RECORD,
 };
+use testkit::group_vectors;
 
 const KID: Kid = Kid(200);
 const BASE_KEY: [u8; 16] = [7; 16];
@@ -258,37 +259,32 @@ fn places() {
     }
 }
 
-/// Key numbers of a group, typed and raw; each argument stands at its own place.
+/// Key numbers of a group, typed and raw.
 #[test]
 fn groups() {
     let widths = GroupWidths { index: 6, epoch: 4 };
-    let parts = GroupParts {
-        context: 3,
-        index: 2,
-        epoch: 17,
-    };
-    assert_eq!(group_kid(parts, widths), Ok(Kid(0xc21)));
-    assert_eq!(raw::group_kid(3, 2, 17, 6, 4).kid, 0xc21);
-    let read = GroupParts { epoch: 1, ..parts };
-    assert_eq!(group_parts(Kid(0xc21), widths), Ok(read));
+    for case in group_vectors() {
+        let (context, index, epoch) = (case.context, case.index, case.epoch);
+        let parts = GroupParts {
+            context,
+            index,
+            epoch,
+        };
+        let kid = Kid(case.kid);
+        assert_eq!(group_kid(parts, widths), Ok(kid));
+        assert_eq!(raw::group_kid(context, index, epoch, 6, 4).kid, case.kid);
+        let epoch = epoch % 16;
+        assert_eq!(group_parts(kid, widths), Ok(GroupParts { epoch, ..parts }));
 
-    let late = GroupParts { index: 64, ..parts };
-    assert_eq!(group_kid(late, widths), Err(Refusal::GroupPartTooLarge));
-    for widths in [
-        GroupWidths {
-            index: 61,
-            epoch: 4,
-        },
-        GroupWidths {
-            index: u64::MAX,
-            epoch: u64::MAX,
-        },
-    ] {
-        assert_eq!(group_kid(late, widths), Err(Refusal::GroupKidTooLong));
-        let answer = group_parts(Kid(0xc21), widths);
-        assert_eq!(answer, Err(Refusal::GroupKidTooLong));
-        let raw = raw::group_parts(0xc21, widths.index, widths.epoch);
-        assert_eq!((raw.context, raw.index, raw.epoch), (0, 0, 0));
+        let nobody = GroupParts { index: 64, ..parts };
+        assert_eq!(group_kid(nobody, widths), Err(Refusal::GroupPartTooLarge));
+        for (index, epoch) in [(61, 4), (u64::MAX, u64::MAX)] {
+            let widths = GroupWidths { index, epoch };
+            assert_eq!(group_kid(nobody, widths), Err(Refusal::GroupKidTooLong));
+            assert_eq!(group_parts(kid, widths), Err(Refusal::GroupKidTooLong));
+            let raw = raw::group_parts(case.kid, index, epoch);
+            assert_eq!((raw.context, raw.index, raw.epoch), (0, 0, 0));
+        }
     }
 }
 

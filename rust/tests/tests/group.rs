@@ -9,21 +9,9 @@ use reference::group::low_bits;
 use reference::suites::{Suite, SUITES};
 use sframe::ffi::{sframe_group_kid, sframe_group_parts};
 use sframe::{Role, MAX_RECORDS, RECORD};
-use testkit::Generator;
+use testkit::{group_vectors, Generator};
 
-/// Epoch, index, context and key number in the figure of RFC 9605 section 5.2,
-/// where S is 6 and E is 4.
-const FIGURE: [(u64, u64, u64, u64); 9] = [
-    (14, 3, 0, 0x3e),
-    (14, 7, 0, 0x7e),
-    (14, 20, 0, 0x14e),
-    (15, 3, 0, 0x3f),
-    (15, 5, 0, 0x5f),
-    (16, 2, 2, 0x820),
-    (16, 2, 3, 0xc20),
-    (17, 33, 0, 0x211),
-    (17, 51, 0, 0x331),
-];
+/// The widths in the figure of RFC 9605 section 5.2.
 const S: u64 = 6;
 const E: u64 = 4;
 
@@ -32,11 +20,11 @@ const SUITE: Suite = Suite::Aes128GcmSha256_128;
 
 #[test]
 fn published_key_numbers() {
-    for (epoch, index, context, kid) in FIGURE {
-        let packed = compare_group_kid(context, index, epoch, S, E);
-        assert_eq!((packed.number, packed.kid), (DONE, kid));
-        let parts = compare_group_parts(kid, S, E);
-        let expected = (context, index, epoch % 16);
+    for case in group_vectors() {
+        let packed = compare_group_kid(case.context, case.index, case.epoch, S, E);
+        assert_eq!((packed.number, packed.kid), (DONE, case.kid));
+        let parts = compare_group_parts(case.kid, S, E);
+        let expected = (case.context, case.index, case.epoch % 16);
         assert_eq!((parts.context, parts.index, parts.epoch), expected);
     }
 }
@@ -197,9 +185,9 @@ fn change(store: &[u8], width: u64, bits: u64) -> Vec<u8> {
 /// The epochs of the figure end one after the other.
 #[test]
 fn the_epochs_of_the_figure() {
-    let mut store = FIGURE
+    let mut store = group_vectors()
         .iter()
-        .fold(made(10), |store, &(_, _, _, kid)| receive(&store, kid));
+        .fold(made(10), |store, case| receive(&store, case.kid));
     for (epoch, members) in [(14, 3), (15, 2), (16, 2), (17, 2)] {
         let before = store.clone();
         store = change(&store, E, epoch % 16);
