@@ -181,8 +181,8 @@ uint32_t sframe_remove_near(uint8_t *store, size_t store_len, uint64_t kid, size
 
 /*
  * Changes the epoch of a group whose key numbers are made by sframe_group_kid: removes exactly the receiving
- * keys whose key number has epoch_bits as its low epoch_width bits, each as sframe_remove does. It is for
- * before the keys of a new epoch with these low bits are added, or earlier.
+ * keys whose key number has epoch_bits as its low epoch_width bits, each as sframe_remove does. RFC 9605
+ * asks for it at the latest when a new epoch with the same low bits begins.
  *
  * Sending keys and retired records stay as they are. When the low bits of the epoch come round again, the key
  * number that a sender had with them is still taken (SFRAME_KID_HELD): it needs another context by then.
