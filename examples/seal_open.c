@@ -44,6 +44,24 @@ static void print_hex(const char *name, const uint8_t *bytes, size_t length)
     putchar('\n');
 }
 
+/* Ends the program unless a frame is refused with that answer and the room, which is zero, stays so. */
+static void expect_nothing(uint8_t *store, size_t store_len, const uint8_t *frame, size_t frame_len, uint8_t *opened,
+                           enum sframe_answer expected)
+{
+    size_t opened_len;
+
+    expect("open",
+           sframe_open(store, store_len, frame, frame_len, METADATA, sizeof METADATA, opened, sizeof PICTURE,
+                       &opened_len),
+           expected);
+    for (size_t i = 0; i < sizeof PICTURE; i++) {
+        if (opened[i] != 0) {
+            fputs("a refused frame was shown\n", stderr);
+            exit(EXIT_FAILURE);
+        }
+    }
+}
+
 /* Seals and opens under one suite. Both stores have room for two keys. */
 static void round_trip(uint64_t suite, const uint8_t *base_key, size_t base_key_len)
 {
@@ -53,7 +71,7 @@ static void round_trip(uint64_t suite, const uint8_t *base_key, size_t base_key_
     uint8_t *frame = lend(room_len), *opened = lend(sizeof PICTURE);
     uint8_t header[SFRAME_MAX_HEADER];
     size_t frame_len, opened_len, header_len, written_len;
-    uint64_t kid, ctr;
+    uint64_t kid, ctr, count;
 
     expect("make", sframe_make(ward, store_len), SFRAME_DONE);
     expect("make", sframe_make(doctor, store_len), SFRAME_DONE);
@@ -83,19 +101,24 @@ static void round_trip(uint64_t suite, const uint8_t *base_key, size_t base_key_
     printf("suite %" PRIu64 ": key number %" PRIu64 ", counter %" PRIu64 "\n", suite, kid, ctr);
     print_hex("frame", frame, frame_len);
 
-    /* A changed frame answers so, and nothing of it is shown. */
+    /* A frame that is played again answers so, and nothing of it is shown. */
     memset(opened, 0, sizeof PICTURE);
+    expect_nothing(doctor, store_len, frame, frame_len, opened, SFRAME_ALREADY_OPENED);
+
+    /* So does one that has changed on its way. As it was sealed, it still opens. */
+    expect("seal",
+           sframe_seal(ward, store_len, KID, METADATA, sizeof METADATA, PICTURE, sizeof PICTURE, frame, room_len,
+                       &frame_len),
+           SFRAME_DONE);
+    frame[frame_len - 1] ^= 1;
+    expect_nothing(doctor, store_len, frame, frame_len, opened, SFRAME_TAG_DIFFERS);
     frame[frame_len - 1] ^= 1;
     expect("open",
            sframe_open(doctor, store_len, frame, frame_len, METADATA, sizeof METADATA, opened, sizeof PICTURE,
                        &opened_len),
-           SFRAME_TAG_DIFFERS);
-    for (size_t i = 0; i < sizeof PICTURE; i++) {
-        if (opened[i] != 0) {
-            fputs("a refused frame was shown\n", stderr);
-            exit(EXIT_FAILURE);
-        }
-    }
+           SFRAME_DONE);
+    expect("report", sframe_report(doctor, store_len, KID, &count), SFRAME_DONE);
+    printf("  %" PRIu64 " of the last %d counters opened\n", count, SFRAME_WINDOW);
 
     /* A key that was removed seals no more, and its number does not return. */
     expect("remove", sframe_remove(ward, store_len, KID), SFRAME_DONE);

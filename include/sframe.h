@@ -18,13 +18,13 @@
  * What the caller owes, since no callee can check it and no proof covers it:
  *   - each pointer is valid for as many bytes as the length beside it says; a byte string whose length
  *     is 0 may be given as a null pointer;
- *   - the pointers for single numbers (kid, ctr, length) are valid, aligned and never null;
+ *   - the pointers for single numbers (kid, ctr, length, count) are valid, aligned and never null;
  *   - whatever a call writes to (store, room, single numbers) overlaps nothing else of the call;
  *   - one caller at a time: while a call uses a store, nobody else writes to that store, and nobody
- *     reads it while a call changes it. Calls of sframe_open alone may share a store;
+ *     reads it while a call changes it. Opening changes it too, so no two openings share a store;
  *   - between calls the store stays as the last call left it. A store that is copied, or set back to
- *     an earlier state, would seal with counters that were used before; so would a store that is made
- *     again and given the same keys.
+ *     an earlier state, would seal with counters that were used before, and open frames that were
+ *     opened before; so would a store that is made again and given the same keys.
  */
 #ifndef SFRAME_H
 #define SFRAME_H
@@ -47,7 +47,8 @@ extern "C" {
 /* The answers. */
 enum sframe_answer {
     SFRAME_DONE = 0,
-    /* The store breaks a rule of its layout. In making: its length is not 80 to 5120 in steps of 80. */
+    /* The store breaks a rule of its layout, be it that its keys are those of an older library, whose
+     * records had 80 bytes. In making: its length is not 96 to 6144 in steps of 96. */
     SFRAME_STORE_NOT_SOUND = 1,
     /* The suite is none of enum sframe_suite. */
     SFRAME_SUITE_UNKNOWN = 2,
@@ -59,8 +60,8 @@ enum sframe_answer {
     SFRAME_STORE_FULL = 5,
     /* The store has no record of the key number. */
     SFRAME_KID_UNKNOWN = 6,
-    /* The record is not for this: sealing takes a sending one, opening a receiving one, and a retired
-     * one is not removed again. */
+    /* The record is not for this: sealing takes a sending one, opening and the report a receiving one,
+     * and a retired one is not removed again. */
     SFRAME_WRONG_ROLE = 7,
     /* The key has sealed with its last counter, 2^64 - 1: none is left. */
     SFRAME_COUNTER_SPENT = 8,
@@ -74,6 +75,11 @@ enum sframe_answer {
     SFRAME_ROOM_SHORT = 12,
     /* The tag is not the one of this frame, key and metadata. */
     SFRAME_TAG_DIFFERS = 13,
+    /* A frame with this key number and counter was opened before. */
+    SFRAME_ALREADY_OPENED = 14,
+    /* The counter lies SFRAME_WINDOW or more below the highest that was opened under the key number:
+     * whether it was opened before is not known any more. */
+    SFRAME_TOO_OLD = 15,
     /* No key is added for sending with SFRAME_AES_128_CTR_HMAC_SHA256_32, whose tags have 4 bytes. */
     SFRAME_SENDING_BARRED = 17,
     /* The bits of the step are not 1 to SFRAME_MAX_RATCHET_BITS, or the key number does not fit in 64
@@ -94,7 +100,7 @@ enum sframe_suite {
 
 /* The most keys of a store, and the bytes of a store for so many keys, 1 to SFRAME_MAX_KEYS. */
 #define SFRAME_MAX_KEYS 64
-#define SFRAME_STORE_SIZE(keys) ((size_t)80 * (keys))
+#define SFRAME_STORE_SIZE(keys) ((size_t)96 * (keys))
 
 /* The limits of base keys, plaintext and metadata, in bytes. */
 #define SFRAME_MIN_BASE_KEY 16
@@ -105,6 +111,9 @@ enum sframe_suite {
 /* The longest header and the longest tag, in bytes. */
 #define SFRAME_MAX_HEADER 17
 #define SFRAME_MAX_TAG 16
+
+/* How many counters a receiving key remembers, from the highest that it has opened down. */
+#define SFRAME_WINDOW 64
 
 /* The most steps of one call of sframe_ratchet, and the most bits of the step in a key number. */
 #define SFRAME_MAX_STEPS 64
@@ -137,15 +146,16 @@ uint32_t sframe_add_sending(uint8_t *store, size_t store_len, uint64_t kid, uint
                             size_t base_key_len);
 
 /*
- * Adds a key for opening, of any suite. As sframe_add_sending in all else.
+ * Adds a key for opening, of any suite; it has opened nothing yet. As sframe_add_sending in all else.
  */
 uint32_t sframe_add_receiving(uint8_t *store, size_t store_len, uint64_t kid, uint64_t suite, const uint8_t *base_key,
                               size_t base_key_len);
 
 /*
- * Removes a key. The record of a receiving key becomes empty, and its key number may return. That of a
- * sending key becomes retired, even if it has sealed nothing: key and salt are wiped, the record and
- * the key number stay taken.
+ * Removes a key. The record of a receiving key becomes empty, and its key number may return; which
+ * frames it has opened is forgotten, so it should not return with the same base key. That of a sending
+ * key becomes retired, even if it has sealed nothing: key and salt are wiped, the record and the key
+ * number stay taken.
  *
  * SFRAME_DONE, or the first of SFRAME_STORE_NOT_SOUND, SFRAME_KID_UNKNOWN, SFRAME_WRONG_ROLE that
  * holds.
@@ -178,18 +188,32 @@ uint32_t sframe_seal_at(uint8_t *store, size_t store_len, uint64_t kid, const ui
                         size_t *length);
 
 /*
- * Opens a frame, given the metadata of its sealing, and writes the plaintext to the start of out. The
- * store is not changed. Nothing is written before the tag is found to match. The tag is over the header
- * as it was received, in its shortest form or a longer one. What counts as plaintext for
- * SFRAME_TOO_LONG are the bytes between header and tag. A room as long as the frame always suffices.
+ * Opens a frame, given the metadata of its sealing, and writes the plaintext to the start of out.
+ * Nothing is written before the tag is found to match. The tag is over the header as it was received,
+ * in its shortest form or a longer one. What counts as plaintext for SFRAME_TOO_LONG are the bytes
+ * between header and tag. A room as long as the frame always suffices.
  *
- * SFRAME_DONE: *length is the plaintext's length, and the room beyond it stays as it was.
+ * No frame is opened twice: the key's record remembers which of the last SFRAME_WINDOW counters it has
+ * opened. Frames may come in any order, as long as they are fewer than that behind.
+ *
+ * SFRAME_DONE: *length is the plaintext's length, and the room beyond it stays as it was; the record
+ * has the frame's counter as opened, and the rest of the store stays as it was.
  * Else the first of SFRAME_STORE_NOT_SOUND, SFRAME_HEADER_INVALID, SFRAME_KID_UNKNOWN,
- * SFRAME_WRONG_ROLE, SFRAME_FRAME_SHORT, SFRAME_TOO_LONG, SFRAME_ROOM_SHORT, SFRAME_TAG_DIFFERS that
- * holds: *length is 0 and the room stays as it was.
+ * SFRAME_WRONG_ROLE, SFRAME_FRAME_SHORT, SFRAME_TOO_LONG, SFRAME_ROOM_SHORT, SFRAME_ALREADY_OPENED,
+ * SFRAME_TOO_OLD, SFRAME_TAG_DIFFERS that holds: *length is 0, and store and room stay as they were.
  */
-uint32_t sframe_open(const uint8_t *store, size_t store_len, const uint8_t *frame, size_t frame_len,
+uint32_t sframe_open(uint8_t *store, size_t store_len, const uint8_t *frame, size_t frame_len,
                      const uint8_t *metadata, size_t metadata_len, uint8_t *out, size_t out_len, size_t *length);
+
+/*
+ * How many of the last SFRAME_WINDOW counters were opened under a receiving key, the highest that was
+ * opened among them; 0 where none was yet. The store is not changed.
+ *
+ * SFRAME_DONE: *count is that number, 0 to SFRAME_WINDOW.
+ * Else the first of SFRAME_STORE_NOT_SOUND, SFRAME_KID_UNKNOWN, SFRAME_WRONG_ROLE that holds: *count
+ * is 0.
+ */
+uint32_t sframe_report(const uint8_t *store, size_t store_len, uint64_t kid, uint64_t *count);
 
 /*
  * Writes the header of kid and ctr, in its shortest form, to the start of out.

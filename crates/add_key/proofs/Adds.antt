@@ -20,7 +20,7 @@ use Rattle.store.specs.Table.{get, fill, full}
 use Rattle.key_record.specs.declared.Role.{Role}
 use Rattle.key_record.specs.declared.Role.the-variants.{Sending, Receiving}
 use Rattle.store.proofs.CipherLaws.{Laws}
-use Rattle.key_record.proofs.Codec.{Secret, Fit}
+use Rattle.key_record.proofs.Codec.{Secret, Fit, fresh-in-range}
 use Rattle.store.proofs.Stores.{Stored, stored-sound, stored-records, Change, fill-change}
 use Rattle.store.proofs.Tables.{empty-is}
 use Rattle.add_key.specs.Add.{barred, added, addCauses, addAt, add}
@@ -48,7 +48,7 @@ module _ (cipher : Cipher) (laws : Laws cipher) where
   added-fit : (role : Role) (kid suite : ℕ) (base : List ℕ) → kid < 2 ^ 64 → Octets base → isSuite suite ≡ true → Fit (added cipher role kid suite base)
   unfolding added
   added-fit Sending kid suite base h o e = (record { known = e; kid-below = h; counter-most = omega arith }, derived suite kid base o e)
-  added-fit Receiving kid suite base h o e = (record { known = e; kid-below = h; counter-most = omega arith }, derived suite kid base o e)
+  added-fit Receiving kid suite base h o e = (record { known = e; kid-below = h; counter-most = omega arith }, derived suite kid base o e, fresh-in-range)
 
   module _ (s : List ℕ) (rs : List KeyRecord) (t : Stored s rs) where
     add-on : (role : Role) (kid suite : ℕ) (base : List ℕ) → add cipher s role kid suite base ≡ addAt cipher true rs s role kid suite base

@@ -16,6 +16,7 @@ use Rattle.store.specs.Cipher.{Cipher}
 use Rattle.key_record.specs.Record.{KeyRecord, sending, receiving, isEmpty}
 use Rattle.store.specs.Store.{encodeAll, records, sound}
 use Rattle.key_record.specs.Suites.{isSuite}
+use Rattle.window.specs.Window.{fresh}
 use Rattle.store.specs.Table.{get, fill, full}
 use Rattle.key_record.specs.declared.Role.{Role}
 use Rattle.key_record.specs.declared.Role.the-variants.{Sending, Receiving}
@@ -40,11 +41,11 @@ addCauses valid role suite base held rs =
     ∷ (storeFull if full rs)
     ∷ []
 
--- The record of a key just added: counter 0, and the key and salt that RFC 9605 derives.
+-- The record of a key just added: counter 0, or nothing opened yet, and the key and salt that RFC 9605 derives.
 unfoldable pub added : (cipher : Cipher) (role : Role) (kid suite : ℕ) (base : List ℕ) → KeyRecord
 added cipher Sending kid suite base =
     sending (record { suite = suite; kid = kid; counter = 0; salt = cipher .salt suite base kid; key = cipher .key suite base kid })
-added cipher Receiving kid suite base = receiving (record { suite = suite; kid = kid; salt = cipher .salt suite base kid; key = cipher .key suite base kid })
+added cipher Receiving kid suite base = receiving (record { suite = suite; kid = kid; salt = cipher .salt suite base kid; key = cipher .key suite base kid }) fresh
 
 unfoldable pub addAt : (cipher : Cipher) (valid : Bool) (rs : List KeyRecord) (s : List ℕ) (role : Role) (kid suite : ℕ) (base : List ℕ) → Outcome
 addAt cipher valid rs s role kid suite base =

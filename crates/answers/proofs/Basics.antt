@@ -1,5 +1,5 @@
 -- Tests, and the first cause that applies. Assumes nothing.
-use mathlib.Core.Path.{_≡_, refl, sym, _∙_}
+use mathlib.Core.Path.{_≡_, refl, sym, _∙_, ap}
 use mathlib.Core.Bool.{Bool, true, false, not, false≢true}
 use mathlib.Core.List.{List, [], _∷_}
 use Prim.Native.Nat.{ℕ, zero, suc}
@@ -86,6 +86,13 @@ pub settled-store : (n : ℕ) (s room : List ℕ) (o : Outcome) → o .store ≡
 unfolding settled
 settled-store zero s room o e = e
 settled-store (suc n) s room o e = refl
+
+-- what a call answers, and what it leaves in store and room
+abbrev pub Leaves : Outcome → ℕ → ℕ → List ℕ → List ℕ → Type 0
+Leaves o number written store room = ((number ≡ o .number) × (written ≡ o .written)) × ((store ≡ o .store) × (room ≡ o .room))
+
+pub leaves : (o p : Outcome) → o ≡ p → Leaves o (p .number) (p .written) (p .store) (p .room)
+leaves o p e = ((sym (ap (λ (x : Outcome). x .number) e), sym (ap (λ (x : Outcome). x .written) e)), (sym (ap (λ (x : Outcome). x .store) e), sym (ap (λ (x : Outcome). x .room) e)))
 
 -- a call is refused for the first cause that applies, or none applies and it succeeds
 pub data Settled (cs : List Cause) (s room : List ℕ) (o out : Outcome) : Type 0 where

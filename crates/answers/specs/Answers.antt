@@ -45,6 +45,12 @@ frameShort = 11
 abbrev pub tagDiffers : ℕ
 tagDiffers = 13
 
+abbrev pub alreadyOpened : ℕ
+alreadyOpened = 14
+
+abbrev pub counterTooOld : ℕ
+counterTooOld = 15
+
 abbrev pub sendingBarred : ℕ
 sendingBarred = 17
 

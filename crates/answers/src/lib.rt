@@ -31,6 +31,10 @@ pub const ROOM_SHORT: u32 = 12;
 
 pub const TAG_DIFFERS: u32 = 13;
 
+pub const ALREADY_OPENED: u32 = 14;
+
+pub const COUNTER_TOO_OLD: u32 = 15;
+
 pub const SENDING_BARRED: u32 = 17;
 
 pub const RATCHET_KID_INVALID: u32 = 20;

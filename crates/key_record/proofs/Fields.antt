@@ -2,7 +2,7 @@
 use mathlib.Core.Path.{_≡_, refl, sym, _∙_, ap, ap₂}
 use mathlib.Core.Bool.{Bool, true, false, not, false≢true}
 use mathlib.Core.List.{List, [], _∷_, _++_, append-assoc, append-nil}
-use Prim.Native.Nat.{ℕ, suc, _+_, _-_, _<_, _≤_}
+use Prim.Native.Nat.{ℕ, _+_, _-_, _<_, _≤_}
 use native.Mathlib.Omega.{arith}
 use lib.Dec.{leb, eqb}
 use lib.ListN.{length, getD, set, take, drop, replicate, length-append, length-take, length-drop, length-replicate, drop-of-length-le}
@@ -10,7 +10,7 @@ use lib.Seq.{take-at, drop-drop}
 use borrow.Author.Tests.{leb-true, eq-eqb, ne-eqb, eqb-true, eqb-false}
 use borrow.Rule.Slice.PartMut.{putMid}
 use Rattle.octets.specs.Octets.{Octets, number, bytes, pasted}
-use Rattle.octets.proofs.Laws.{bytes-length, part-rest}
+use Rattle.octets.proofs.Laws.{bytes-length, part-rest, pasted-append}
 use Rattle.answers.proofs.Basics.{Two, yes′, no′, two, both-true, told-false, told-true}
 use Rattle.suites.specs.Suites as Suites
 use Rattle.suites.specs.Suites.{numberOf, Nk, Nn}
@@ -19,8 +19,11 @@ use Rattle.suites.specs.declared.sizes.Suite.{Suite}
 use Rattle.suites.specs.declared.sizes.Found.{Found}
 use Rattle.suites.specs.declared.sizes.Found.the-variants.{Known, Unknown}
 use Rattle.suites.proofs.Laws.{Nk-most, key-length, salt-length}
-use Rattle.key_record.specs.Layout.{recordSize, markAt, suiteAt, spentAt, kidAt, counterAt, saltAt, keyAt, keyRoom, sendingMark, receivingMark, retiredMark, spentByte, row, encode, counterIn, decode, SpentByte}
-use Rattle.key_record.specs.Record.{ceiling, SendingKey, KeyRecord, empty, sending, receiving, retired, isEmpty, isSending, isReceiving, kidOf, holds, suiteOf, saltOf, keyOf, counterOf, advanced}
+use Rattle.window.specs.Window as Replay
+use Rattle.window.specs.Window.{moved}
+use Rattle.window.specs.declared.Window.{Window}
+use Rattle.key_record.specs.Layout.{recordSize, markAt, suiteAt, spentAt, kidAt, counterAt, saltAt, keyAt, highestAt, maskAt, sendingMark, receivingMark, retiredMark, layoutVersion, spentByte, windowBytes, ending, row, encode, counterIn, windowIn, decode, SpentByte}
+use Rattle.key_record.specs.Record.{ceiling, SendingKey, KeyRecord, empty, sending, receiving, retired, isEmpty, isSending, isReceiving, kidOf, holds, suiteOf, saltOf, keyOf, counterOf, windowOf, advanced, noted}
 use Rattle.key_record.specs.Suites.{isSuite, keySize, saltSize}
 use Rattle.key_record.specs.inner.Judging.{holdingMark, lastCounter, newRow, retiredRow}
 use Rattle.key_record.specs.inner.Rows.{Row, Numbered, kindOf, hasKey, counterLeft, markFor, fresh, kept}
@@ -30,9 +33,9 @@ use Rattle.key_record.specs.declared.Role.{Role}
 use Rattle.key_record.specs.declared.Role.the-variants.{Sending, Receiving}
 use Rattle.key_record.proofs.Codec.{Fit, row-read, read-sending, read-receiving, read-retired, read-empty, obeys-fits, encode-length}
 use Rattle.key_record.proofs.KindLaws.{holds-some}
-use Rattle.key_record.proofs.Rows.{row-spent, row-counter, row-last, row-salted, row-keyed}
+use Rattle.key_record.proofs.Rows.{row-spent, row-counter, row-last, row-salted, row-keyed, row-windowed}
 use Rattle.key_record.proofs.Spent.{spent-none, spent-all, Spent, spent, left, spent-or-left}
-use Rattle.key_record.proofs.Suites.{suite-unnamed, key-named}
+use Rattle.key_record.proofs.Suites.{suite-unnamed, key-named, key-size}
 
 -- ---- what a record is
 
@@ -119,7 +122,7 @@ module _ (l : List ℕ) where
 pub fit-suite : (r : KeyRecord) → Fit r → isEmpty r ≡ false → isSuite (suiteOf r) ≡ true
 fit-suite empty f e = absurd (false≢true (sym e))
 fit-suite (sending r) f e = f .0 .known
-fit-suite (receiving r) f e = f .0 .known
+fit-suite (receiving r w) f e = f .0 .known
 fit-suite (retired r) f e = f .known
 
 some-left : (r : KeyRecord) → counterLeft r ≡ true → counterOf r ≡ ceiling → ⊥
@@ -137,11 +140,11 @@ counter-fields : (r : KeyRecord) → Fit r → (getD (encode r) spentAt 0 ≡ sp
 unfolding encode
 counter-fields empty f = zeros-count
 counter-fields (sending r) f =
-    (row-spent sendingMark (r .suite) (r .kid) (r .counter) (r .salt) (r .key), row-read sendingMark (r .suite) (r .kid) (r .counter) (r .salt) (r .key) (f .0 .kid-below) (f .0 .counter-most) (f .1 .salt-length) .counter-is)
-counter-fields (receiving r) f =
-    (row-spent receivingMark (r .suite) (r .kid) 0 (r .salt) (r .key), row-read receivingMark (r .suite) (r .kid) 0 (r .salt) (r .key) (f .0 .kid-below) (f .0 .counter-most) (f .1 .salt-length) .counter-is)
+    (row-spent sendingMark (r .suite) (r .kid) (r .counter) (r .salt) (r .key) Replay.fresh, row-read sendingMark (r .suite) (r .kid) (r .counter) (r .salt) (r .key) Replay.fresh (f .0 .kid-below) (f .0 .counter-most) (f .1 .salt-length) .counter-is)
+counter-fields (receiving r w) f =
+    (row-spent receivingMark (r .suite) (r .kid) 0 (r .salt) (r .key) w, row-read receivingMark (r .suite) (r .kid) 0 (r .salt) (r .key) w (f .0 .kid-below) (f .0 .counter-most) (f .1 .salt-length) .counter-is)
 counter-fields (retired r) f =
-    (row-spent retiredMark (r .suite) (r .kid) (r .counter) (replicate saltSize 0) [], row-read retiredMark (r .suite) (r .kid) (r .counter) (replicate saltSize 0) [] (f .kid-below) (f .counter-most) refl .counter-is)
+    (row-spent retiredMark (r .suite) (r .kid) (r .counter) (replicate saltSize 0) [] Replay.fresh, row-read retiredMark (r .suite) (r .kid) (r .counter) (replicate saltSize 0) [] Replay.fresh (f .kid-below) (f .counter-most) refl .counter-is)
 
 module _ (l : List ℕ) (o : Octets l) (w : Row l) where
   pub row-fit : Fit (decode l)
@@ -230,7 +233,7 @@ module _ (l : List ℕ) (v : ℕ) (o : Octets l) (w : Row l) (h : isSending (dec
     where
       by : (r : KeyRecord) → decode l ≡ r → isSending r ≡ true → x ≡ encode (advanced (decode l))
       by empty q s = absurd (false≢true s)
-      by (receiving r) q s = absurd (false≢true s)
+      by (receiving r w) q s = absurd (false≢true s)
       by (retired r) q s = absurd (false≢true s)
       by (sending r) q s =
           f r (ap encode (sym q) ∙ row-bytes l o w) (e ∙ ap counterOf q) (rw q at c) ∙ ap (λ (y : KeyRecord). encode (advanced y)) (sym q)
@@ -238,12 +241,60 @@ module _ (l : List ℕ) (v : ℕ) (o : Octets l) (w : Row l) (h : isSending (dec
   pub advanced-told : (x : List ℕ) → (v ≡ lastCounter → ⊥) → x ≡ pasted l counterAt (bytes 8 (v + 1)) → x ≡ encode (advanced (decode l))
   unfolding encode advanced
   advanced-told x d q = advanced-row x (λ r a b below. q ∙ ap₂ (λ (y : List ℕ) (k : ℕ). pasted y counterAt (bytes 8 (k + 1))) (sym a) b
-      ∙ row-counter sendingMark (r .suite) (r .kid) (r .counter) (r .counter + 1) (r .salt) (r .key) (spent-none (r .counter) (λ z. omega arith)) (spent-none (r .counter + 1) (λ z. d (omega arith))))
+      ∙ row-counter sendingMark (r .suite) (r .kid) (r .counter) (r .counter + 1) (r .salt) (r .key) Replay.fresh (spent-none (r .counter) (λ z. omega arith)) (spent-none (r .counter + 1) (λ z. d (omega arith))))
 
   pub last-told : (x : List ℕ) → v ≡ lastCounter → x ≡ set l spentAt 1 → x ≡ encode (advanced (decode l))
   unfolding encode advanced
   last-told x z q = advanced-row x (λ r a b below. q ∙ ap (λ (y : List ℕ). set y spentAt 1) (sym a)
-      ∙ row-last sendingMark (r .suite) (r .kid) (r .counter) (r .counter + 1) (r .salt) (r .key) (spent-none (r .counter) (λ y. omega arith)) refl (spent-all (r .counter + 1) (omega arith)))
+      ∙ row-last sendingMark (r .suite) (r .kid) (r .counter) (r .counter + 1) (r .salt) (r .key) Replay.fresh (spent-none (r .counter) (λ y. omega arith)) refl (spent-all (r .counter + 1) (omega arith)))
+
+-- ---- a window that moves
+
+-- the window of a receiving record
+pub window-read : (l : List ℕ) (w : Window) → isReceiving (decode l) ≡ true → w ≡ windowIn l → w ≡ windowOf (decode l)
+window-read l w h e = e ∙ by (read l)
+  where
+    by : Read l → windowIn l ≡ windowOf (decode l)
+    by (reads-sending m) = absurd (false≢true (sym (ap isReceiving (read-sending l m)) ∙ h))
+    by (reads-receiving m) = sym (ap windowOf (read-receiving l m))
+    by (reads-retired m) = absurd (false≢true (sym (ap isReceiving (read-retired l m)) ∙ h))
+    by (reads-empty q d f) = absurd (false≢true (sym (ap isReceiving q) ∙ h))
+
+pub fit-window : (r : KeyRecord) → Fit r → isReceiving r ≡ true → Replay.fits (windowOf r) ≡ true
+fit-window empty f e = absurd (false≢true e)
+fit-window (sending r) f e = absurd (false≢true e)
+fit-window (receiving r w) f e = f .2 .in-order
+fit-window (retired r) f e = absurd (false≢true e)
+
+module _ (l : List ℕ) (o : Octets l) (w : Row l) (h : isReceiving (decode l) ≡ true) (ctr : ℕ) where
+  pub noted-told : (v : Window) (x y : List ℕ) → v ≡ moved (windowOf (decode l)) ctr → x ≡ pasted l highestAt (bytes 8 (v .highest)) → y ≡ pasted x maskAt (bytes 8 (v .mask)) → y ≡ encode (noted ctr (decode l))
+  unfolding encode noted windowBytes
+  noted-told v x y e p q = by (decode l) refl h
+    where
+      a : List ℕ
+      a = bytes 8 (v .highest)
+
+      b : List ℕ
+      b = bytes 8 (v .mask)
+
+      -- both fields at once
+      pasted-both : y ≡ pasted l highestAt (bytes 8 (v .highest) ++ bytes 8 (v .mask))
+      pasted-both =
+          q ∙ ap₂ (λ (t : List ℕ) (k : ℕ). pasted t (highestAt + k) (bytes 8 (v .mask))) p (sym (bytes-length 8 (v .highest)))
+          ∙ pasted-append l highestAt (bytes 8 (v .highest)) (bytes 8 (v .mask)) (rw (bytes-length 8 (v .highest), bytes-length 8 (v .mask)) (omega (arith, w .0)))
+
+      by : (r : KeyRecord) → decode l ≡ r → isReceiving r ≡ true → y ≡ encode (noted ctr (decode l))
+      by empty z s = absurd (false≢true s)
+      by (sending r) z s = absurd (false≢true s)
+      by (retired r) z s = absurd (false≢true s)
+      by (receiving r u) z s =
+          let f : Fit (receiving r u) = rw z at (row-fit l o w) in
+          let is : row receivingMark (r .suite) (r .kid) 0 (r .salt) (r .key) u ≡ l = ap encode (sym z) ∙ row-bytes l o w in
+          let moves : v ≡ moved u ctr = e ∙ ap (λ (t : KeyRecord). moved (windowOf t) ctr) z in
+          pasted-both
+          ∙ ap₂ (λ (t : List ℕ) (k : Window). pasted t highestAt (windowBytes k)) (sym is) moves
+          ∙ row-windowed receivingMark (r .suite) (r .kid) 0 (r .salt) (r .key) u (moved u ctr) (f .1 .salt-length) (omega (arith, f .1 .key-length, key-size (r .suite)))
+          ∙ ap (λ (t : KeyRecord). encode (noted ctr t)) (sym z)
 
 -- ---- a row that is retired
 
@@ -257,6 +308,11 @@ retired-row (a ∷ l) p n e =
     ap (λ (t : List ℕ). retiredMark ∷ (take (saltAt - 1) l ++ t))
     (ap₂ (λ (x y : List ℕ). x ++ y) (e ∙ ap (λ (j : ℕ). replicate {A = ℕ} j 0) k) gone ∙ append-nil (replicate (length (a ∷ l) - saltAt) 0))
 
+-- what ends a retired record is zeros
+retired-end : replicate saltSize 0 ++ ([] ++ ending [] Replay.fresh) ≡ replicate (recordSize - saltAt) 0
+unfolding ending windowBytes bytes
+retired-end = refl
+
 -- the bytes of a sending record become those of what is kept of it
 retired-front : (r : SendingKey) → (retiredMark ∷ drop 1 (take saltAt (encode (sending r)))) ++ replicate (recordSize - saltAt) 0 ≡ encode (kept (sending r))
 unfolding encode row
@@ -264,16 +320,18 @@ retired-front r =
     let a = bytes 8 (r .kid) in
     let number = r .counter - spentByte (r .counter) in
     let b = bytes 8 number in
-    let rest : List ℕ = r .salt ++ (r .key ++ replicate (keyRoom - length (r .key)) 0) in
+    let rest : List ℕ = r .salt ++ (r .key ++ ending (r .key) Replay.fresh) in
+    let front : List ℕ → List ℕ = λ (t : List ℕ). retiredMark ∷ r .suite ∷ spentByte (r .counter) ∷ layoutVersion ∷ t in
     let n : length (a ++ b) ≡ 8 + 8 = length-append a b ∙ ap₂ _+_ (bytes-length 8 (r .kid)) (bytes-length 8 number) in
     let numbers : take (8 + 8) (a ++ (b ++ rest)) ≡ a ++ b = ap (take (8 + 8)) (sym (append-assoc a b rest)) ∙ take-at (a ++ b) rest (8 + 8) n in
-    ap (λ (t : List ℕ). retiredMark ∷ r .suite ∷ spentByte (r .counter) ∷ 0 ∷ (t ++ replicate (recordSize - saltAt) 0)) numbers
-    ∙ ap (λ (t : List ℕ). retiredMark ∷ r .suite ∷ spentByte (r .counter) ∷ 0 ∷ t) (append-assoc a b (replicate (recordSize - saltAt) 0))
+    ap (λ (t : List ℕ). front (t ++ replicate (recordSize - saltAt) 0)) numbers
+    ∙ ap front (append-assoc a b (replicate (recordSize - saltAt) 0))
+    ∙ ap (λ (t : List ℕ). front (a ++ (b ++ t))) (sym retired-end)
 
 retired-encode : (h : KeyRecord) → Fit h → isSending h ≡ true → retiredRow (encode h) ≡ encode (kept h)
 unfolding retiredRow
 retired-encode empty f s = absurd (false≢true s)
-retired-encode (receiving r) f s = absurd (false≢true s)
+retired-encode (receiving r w) f s = absurd (false≢true s)
 retired-encode (retired r) f s = absurd (false≢true s)
 retired-encode (sending r) f s =
     let n : length (encode (sending r)) - saltAt ≡ recordSize - saltAt = ap (λ (k : ℕ). k - saltAt) (encode-length (sending r) f) in
@@ -297,7 +355,7 @@ pub cleared : (l x : List ℕ) → length l ≡ recordSize → x ≡ replicate (
 unfolding encode
 cleared l x n e = e ∙ ap (λ (k : ℕ). replicate {A = ℕ} k 0) n
 
-new-encode : (role : Role) (s : Suite) (kid : ℕ) (base : List ℕ) → row (markFor role) (numberOf s) kid 0 (sframeSalt s base kid) (sframeKey s base kid) ≡ encode (fresh role s kid base)
+new-encode : (role : Role) (s : Suite) (kid : ℕ) (base : List ℕ) → row (markFor role) (numberOf s) kid 0 (sframeSalt s base kid) (sframeKey s base kid) Replay.fresh ≡ encode (fresh role s kid base)
 unfolding encode
 new-encode Sending s kid base = refl
 new-encode Receiving s kid base = refl
@@ -314,9 +372,9 @@ row-filled role s kid mark suite base salt key a b c middle end m n p q g f x y 
     let ls : length salt ≡ saltSize = ap length p ∙ salt-length s base kid in
     let lk : length key ≡ Nk s = ap length q ∙ key-length s base kid in
     let j : length salt ≡ middle - saltAt = omega arith in
-    let one : b ≡ row mark suite kid 0 salt [] = y ∙ part-filled a salt saltAt (middle - saltAt) j ∙ ap (λ (t : List ℕ). pasted t saltAt salt) x ∙ row-salted mark suite kid 0 salt ls in
+    let one : b ≡ row mark suite kid 0 salt [] Replay.fresh = y ∙ part-filled a salt saltAt (middle - saltAt) j ∙ ap (λ (t : List ℕ). pasted t saltAt salt) x ∙ row-salted mark suite kid 0 salt Replay.fresh ls in
     let k : length key ≡ end - keyAt = omega arith in
-    let two : c ≡ row mark suite kid 0 salt key = z ∙ part-filled b key keyAt (end - keyAt) k ∙ ap (λ (t : List ℕ). pasted t keyAt key) one ∙ row-keyed mark suite kid 0 salt key ls (omega (arith, Nk-most s)) in
+    let two : c ≡ row mark suite kid 0 salt key Replay.fresh = z ∙ part-filled b key keyAt (end - keyAt) k ∙ ap (λ (t : List ℕ). pasted t keyAt key) one ∙ row-keyed mark suite kid 0 salt key Replay.fresh ls (omega (arith, Nk-most s)) in
     two ∙ rw (m, n, p, q) (new-encode role s kid base)
 
 -- ---- the KID

@@ -3,22 +3,26 @@ ghost use mathlib.Core.Path.{_≡_};
 ghost use Prim.Native.Nat.{_≤_};
 ghost use lib.ListN.{length, replicate};
 ghost use Rattle.octets.specs.Octets.{same};
-ghost use Rattle.key_record.specs.Layout.{recordSize, keyRoom, obeys};
+ghost use Rattle.key_record.specs.Layout.{recordSize, highestAt, keyRoom, windowIn, obeys};
 ghost use Rattle.key_record.specs.Suites.{isSuite, keySize};
-ghost use Rattle.key_record.specs.inner.Judging.{holdingMark, counterFits, zerosFrom, fieldsFit};
+ghost use Rattle.key_record.specs.inner.Judging.{holdingMark, counterFits, windowFits, zerosFrom, fieldsFit};
 use crate::COUNTER;
 use crate::EMPTY;
+use crate::HIGHEST;
 use crate::KEY;
 use crate::LAST;
+use crate::LAYOUT_VERSION;
 use crate::MARK;
+use crate::MASK;
 use crate::RECEIVING;
-use crate::RESERVED;
 use crate::RETIRED;
 use crate::SALT;
 use crate::SENDING;
 use crate::SPENT;
 use crate::SUITE;
+use crate::VERSION;
 use suites::sizes::Found;
+use window::Window;
 
 // Whether there is a suite of that number.
 fn is_suite(n: u8) -> bool
@@ -82,9 +86,32 @@ fn counter_fits(mark: u8, spent: u8, counter: u64) -> bool
     counter == LAST
 }
 
-// Where the zeros begin that end a record with that mark and that suite.
+// The window that a record's bytes give.
+pub fn window_in(row: &[u8]) -> Window
+    requires { ⌜ length (now row) ≡ recordSize ⌝ }
+    ensures { λ r. ⌜ r ≡ windowIn (now (row .entry)) ⌝ }
+{
+    let highest = octets::read_be64(&row[HIGHEST..]);
+    let mask = octets::read_be64(&row[MASK..]);
+    Window { highest, mask }
+}
+
+// Whether a window fits a record with that mark.
+fn window_fits(mark: u8, w: Window) -> bool
+    ensures { λ r. ⌜ r ≡ windowFits mark w ⌝ }
+{
+    if mark == RECEIVING {
+        return window::is_sound(w);
+    }
+    if w.highest != 0 {
+        return false;
+    }
+    w.mask == 0
+}
+
+// Where the zeros begin that end at the window, in a record with that mark and that suite.
 fn zeros_from(mark: u8, suite: u8) -> usize
-    ensures { λ r. ⌜ (r ≡ zerosFrom mark suite) × (r ≤ recordSize) ⌝ }
+    ensures { λ r. ⌜ (r ≡ zerosFrom mark suite) × (r ≤ highestAt) ⌝ }
 {
     if mark == RETIRED {
         return SALT;
@@ -100,10 +127,13 @@ fn fields_fit(row: &[u8]) -> bool
     if !is_suite(row[SUITE]) {
         return false;
     }
-    if row[RESERVED] != 0 {
+    if row[VERSION] != LAYOUT_VERSION {
         return false;
     }
-    counter_fits(row[MARK], row[SPENT], octets::read_be64(&row[COUNTER..]))
+    if !counter_fits(row[MARK], row[SPENT], octets::read_be64(&row[COUNTER..])) {
+        return false;
+    }
+    window_fits(row[MARK], window_in(row))
 }
 
 // Whether a record's bytes obey their row.
@@ -121,5 +151,5 @@ pub fn obeys_row(row: &[u8]) -> bool
         return false;
     }
     let from = zeros_from(row[MARK], row[SUITE]);
-    is_zero(&row[from..])
+    is_zero(&row[from..HIGHEST])
 }

@@ -6,17 +6,21 @@ ghost use Prim.Native.Nat.{_≤_, _<_};
 ghost use lib.ListN.{length, replicate};
 ghost use Rattle.answers.specs.Limits.{baseKeyMost};
 ghost use Rattle.key_record.specs.Layout.{recordSize, encode, decode};
-ghost use Rattle.key_record.specs.Record.{ceiling, empty, isEmpty, isSending, isReceiving, kidOf, holds, suiteOf, saltOf, keyOf, counterOf, advanced};
+ghost use Rattle.key_record.specs.Record.{ceiling, empty, isEmpty, isSending, isReceiving, kidOf, holds, suiteOf, saltOf, keyOf, counterOf, windowOf, advanced, noted};
 ghost use Rattle.key_record.specs.Suites.{saltSize};
 ghost use Rattle.key_record.specs.inner.Judging.{newRow};
 ghost use Rattle.key_record.specs.inner.Rows.{Row, Numbered, kindOf, hasKey, counterLeft, markFor, fresh, kept};
 ghost use Rattle.suites.specs.Suites.{Nk};
+ghost use Rattle.window.specs.Window.{seen, tooOld};
 use crate::COUNTER;
+use crate::HIGHEST;
 use crate::KEY;
 use crate::KID;
 use crate::Kind;
 use crate::LAST;
+use crate::LAYOUT_VERSION;
 use crate::MARK;
+use crate::MASK;
 use crate::RECEIVING;
 use crate::RETIRED;
 use crate::Role;
@@ -24,11 +28,14 @@ use crate::SALT;
 use crate::SENDING;
 use crate::SPENT;
 use crate::SUITE;
+use crate::VERSION;
 use crate::judging::is_held;
+use crate::judging::window_in;
 use header::Ctr;
 use header::Kid;
 use suites::sizes::Found;
 use suites::sizes::Suite;
+use window::Window;
 
 // What a record is.
 pub fn kind_of(row: &[u8]) -> Kind
@@ -118,6 +125,14 @@ pub fn counter_left(row: &[u8]) -> bool
     row[SPENT] == 0
 }
 
+// The replay window of a receiving record.
+pub fn window_of(row: &[u8]) -> Window
+    requires { ⌜ (length (now row) ≡ recordSize) × (isReceiving (decode (now row)) ≡ true) ⌝ }
+    ensures { λ r. ⌜ r ≡ windowOf (decode (now (row .entry))) ⌝ }
+{
+    window_in(row)
+}
+
 // The salt of a record.
 pub fn salt_of(row: &[u8]) -> &[u8]
     requires { ⌜ (Row (now row)) × (hasKey (decode (now row)) ≡ true) ⌝ }
@@ -145,12 +160,13 @@ fn mark_for(role: Role) -> u8
     }
 }
 
-// Writes a new record over an empty one: mark, suite and KID, the counter 0, salt and key still zero.
+// Writes a new record over an empty one: mark, suite, version and KID, the counter 0, no window, salt and key still zero.
 fn start(row: &mut [u8], mark: u8, suite: u8, kid: Kid)
     requires { ⌜ now row ≡ replicate recordSize 0 ⌝ }
     ensures { λ _. ⌜ now (row .exit) ≡ newRow mark suite (kid .0) (replicate saltSize 0) [] ⌝ }
 {
     octets::write_be_at(row, KID, 8, kid.0);
+    row[VERSION] = LAYOUT_VERSION;
     row[SUITE] = suite;
     row[MARK] = mark;
 }
@@ -178,6 +194,16 @@ pub fn advance(row: &mut [u8])
     } else {
         octets::write_be_at(row, COUNTER, 8, ctr.0 + 1);
     }
+}
+
+// Notes in the window of a receiving record that a frame with that counter was opened, which it does not tell yet.
+pub fn note(row: &mut [u8], ctr: Ctr)
+    requires { ⌜ (Row (now row)) × (isReceiving (decode (now row)) ≡ true) × (seen (windowOf (decode (now row))) (ctr .0) ≡ false) × (tooOld (windowOf (decode (now row))) (ctr .0) ≡ false) ⌝ }
+    ensures { λ _. ⌜ now (row .exit) ≡ encode (noted (ctr .0) (decode (now (row .entry)))) ⌝ }
+{
+    let w = window::open(window_of(row), ctr.0);
+    octets::write_be_at(row, HIGHEST, 8, w.highest);
+    octets::write_be_at(row, MASK, 8, w.mask);
 }
 
 // Retires a sending record.

@@ -1,1 +1,2 @@
 mod OpenSteps
+pub mod Opened

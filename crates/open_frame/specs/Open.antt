@@ -9,13 +9,14 @@ use lib.ListN.{length, take, drop}
 use Rattle.header.specs.Header.{readHeader}
 use Rattle.header.specs.Answers.{headerInvalid, roomShort, readNumber, readKid, readCtr, readLength}
 use Rattle.header.specs.declared.Reading.{Reading}
-use Rattle.answers.specs.Answers.{storeInvalid, kidMissing, roleRefused, inputTooLong, frameShort, tagDiffers, Cause, _if_, first, Outcome, settled}
+use Rattle.answers.specs.Answers.{storeInvalid, kidMissing, roleRefused, inputTooLong, frameShort, tagDiffers, alreadyOpened, counterTooOld, Cause, _if_, first, Outcome, settled}
 use Rattle.answers.specs.Limits.{tooLong}
 use Rattle.store.specs.Cipher.{Cipher, Decrypted, plain, differs}
-use Rattle.key_record.specs.Record.{KeyRecord, isEmpty, isReceiving, suiteOf, saltOf, keyOf}
-use Rattle.store.specs.Store.{records, sound}
+use Rattle.key_record.specs.Record.{KeyRecord, isEmpty, isReceiving, suiteOf, saltOf, keyOf, windowOf, noted}
+use Rattle.store.specs.Store.{encodeAll, records, sound}
 use Rattle.key_record.specs.Suites.{tagSize}
-use Rattle.store.specs.Table.{get}
+use Rattle.store.specs.Table.{get, put}
+use Rattle.window.specs.Window.{seen, tooOld}
 
 abbrev pub plainOf : Decrypted → List ℕ
 plainOf (plain p) = p
@@ -36,6 +37,8 @@ openCauses valid reading held metadata behind plaintext room given =
     ∷ (frameShort if ltb behind (tagSize (suiteOf held)))
     ∷ (inputTooLong if tooLong plaintext metadata)
     ∷ (roomShort if ltb room plaintext)
+    ∷ (alreadyOpened if seen (windowOf held) (readCtr reading))
+    ∷ (counterTooOld if tooOld (windowOf held) (readCtr reading))
     ∷ (tagDiffers if isDiffers given)
     ∷ []
 
@@ -54,13 +57,15 @@ module _ (cipher : Cipher) where
   causesOfOpen valid reading held metadata frame room =
       openCauses valid reading held (length metadata) (length frame - readLength reading) (plainLength reading held frame) (length room) (decrypted reading held metadata frame)
 
-  -- The plaintext stands at the start of the room; nothing changes in the store.
-  unfoldable pub openAt : (valid : Bool) (reading : Reading) (held : KeyRecord) (s metadata frame room : List ℕ) → Outcome
-  openAt valid reading held s metadata frame room =
+  -- The plaintext stands at the start of the room, and the frame's counter is noted in the window of the record. No other record
+  -- changes, and a frame that is not opened changes none.
+  unfoldable pub openAt : (valid : Bool) (reading : Reading) (held : KeyRecord) (rs : List KeyRecord) (s metadata frame room : List ℕ) → Outcome
+  openAt valid reading held rs s metadata frame room =
       let p = plainOf (decrypted reading held metadata frame) in
-      settled (first (causesOfOpen valid reading held metadata frame room)) s room (record { number = 0; written = length p; store = s; room = p ++ drop (length p) room })
+      settled (first (causesOfOpen valid reading held metadata frame room)) s room
+      (record { number = 0; written = length p; store = encodeAll (put (readKid reading) (noted (readCtr reading) held) rs); room = p ++ drop (length p) room })
 
   unfoldable pub opening : (s metadata frame room : List ℕ) → Outcome
   opening s metadata frame room =
       let reading = readHeader frame in
-      openAt (sound s) reading (get (readKid reading) (records s)) s metadata frame room
+      openAt (sound s) reading (get (readKid reading) (records s)) (records s) s metadata frame room

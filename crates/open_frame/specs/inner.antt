@@ -1,2 +1,3 @@
 -- Cited by inner contracts alone: no promise to a caller rests on it.
+pub mod Counters
 pub mod Rooms

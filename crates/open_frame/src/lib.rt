@@ -1,5 +1,5 @@
 // Opening a frame. Each step goes on with what it finds, or returns its own refusal, in the order 1, 10, 6, 7, 11, 9,
-// 12, 13.
+// 12, 14, 15, 13.
 ghost use mathlib.Core.Path.{_≡_};
 ghost use mathlib.Core.Bool.{true, false};
 ghost use mathlib.Core.List.{[], _++_};
@@ -11,13 +11,16 @@ ghost use Rattle.answers.specs.Limits.{maxPlaintext, maxMetadata};
 ghost use Rattle.suites.specs.Suites.{Nt};
 ghost use Rattle.suites.specs.Derivation.{nonce};
 ghost use Rattle.suites.specs.Aead.{decrypt, isPlain, roomAfter};
-ghost use Rattle.key_record.specs.Layout.{decode};
-ghost use Rattle.key_record.specs.Record.{isEmpty, isReceiving, suiteOf, saltOf, keyOf};
+ghost use Rattle.key_record.specs.Layout.{recordSize, decode};
+ghost use Rattle.key_record.specs.Record.{isEmpty, isReceiving, suiteOf, saltOf, keyOf, windowOf};
 ghost use Rattle.store.specs.Sframe.{sframe};
 ghost use Rattle.key_record.specs.inner.Rows.{Row, Numbered};
 ghost use Rattle.open_frame.specs.Open.{openAt, opening};
+ghost use Rattle.open_frame.specs.inner.Counters.{counterAnswer};
 ghost use Rattle.open_frame.specs.inner.Rooms.{roomFor};
+use answers::ALREADY_OPENED;
 use answers::Answer;
+use answers::COUNTER_TOO_OLD;
 use answers::DONE;
 use answers::FRAME_SHORT;
 use answers::HEADER_INVALID;
@@ -80,6 +83,21 @@ fn room_for(room: usize, n: usize) -> Room
     Room::Enough(n)
 }
 
+// What the window of a receiving record has against a counter: 14, 15, or nothing, which is 0.
+fn judge_counter(row: &[u8], ctr: Ctr) -> u32
+    requires { ⌜ (length (now row) ≡ recordSize) × (isReceiving (decode (now row)) ≡ true) ⌝ }
+    ensures { λ r. ⌜ r ≡ counterAnswer (windowOf (decode (now (row .entry)))) (ctr .0) ⌝ }
+{
+    let w = key_record::row::window_of(row);
+    if window::is_seen(w, ctr.0) {
+        return ALREADY_OPENED;
+    }
+    if window::is_too_old(w, ctr.0) {
+        return COUNTER_TOO_OLD;
+    }
+    DONE
+}
+
 // Opens a frame, whose header of n bytes has been read, with the record that holds its KID.
 fn open_with(
     row: &[u8],
@@ -91,8 +109,8 @@ fn open_with(
     room: &mut [u8],
 ) -> Answer
     requires { ⌜ (Row (now row)) × (isEmpty (decode (now row)) ≡ false) × (n ≤ maxHeader) × (n ≤ length (now frame)) ⌝ }
-    ensures { λ r. ⌜ (r .number ≡ openAt sframe true (Header kid ctr n) (decode (now (row .entry))) [] (now (metadata .entry)) (now (frame .entry)) (now (room .entry)) .number) × (r .length ≡ openAt sframe true (Header kid ctr n) (decode (now (row .entry))) [] (now (metadata .entry)) (now (frame .entry)) (now (room .entry)) .written) ⌝ }
-    ensures { λ _. ⌜ now (room .exit) ≡ openAt sframe true (Header kid ctr n) (decode (now (row .entry))) [] (now (metadata .entry)) (now (frame .entry)) (now (room .entry)) .room ⌝ }
+    ensures { λ r. ⌜ (r .number ≡ openAt sframe true (Header kid ctr n) (decode (now (row .entry))) [] [] (now (metadata .entry)) (now (frame .entry)) (now (room .entry)) .number) × (r .length ≡ openAt sframe true (Header kid ctr n) (decode (now (row .entry))) [] [] (now (metadata .entry)) (now (frame .entry)) (now (room .entry)) .written) ⌝ }
+    ensures { λ _. ⌜ now (room .exit) ≡ openAt sframe true (Header kid ctr n) (decode (now (row .entry))) [] [] (now (metadata .entry)) (now (frame .entry)) (now (room .entry)) .room ⌝ }
 {
     if !key_record::row::is_receiving(row) {
         return refused(ROLE_REFUSED);
@@ -110,6 +128,10 @@ fn open_with(
     let Room::Enough(length) = room_for(room.len(), m) else {
         return refused(ROOM_SHORT);
     };
+    let number = judge_counter(row, ctr);
+    if number != DONE {
+        return refused(number);
+    }
     if !decrypt_with(row, suite, ctr, n, metadata, frame, room) {
         return refused(TAG_DIFFERS);
     }
@@ -119,9 +141,10 @@ fn open_with(
     }
 }
 
-// Opens a frame: the plaintext stands at the start of the room. Nothing changes in the store.
-pub fn open(store: &[u8], frame: &[u8], metadata: &[u8], room: &mut [u8]) -> Answer
+// Opens a frame: the plaintext stands at the start of the room. Once it does, and not before, the frame's counter is noted.
+pub fn open(store: &mut [u8], frame: &[u8], metadata: &[u8], room: &mut [u8]) -> Answer
     ensures { λ r. ⌜ (r .number ≡ opening sframe (now (store .entry)) (now (metadata .entry)) (now (frame .entry)) (now (room .entry)) .number) × (r .length ≡ opening sframe (now (store .entry)) (now (metadata .entry)) (now (frame .entry)) (now (room .entry)) .written) ⌝ }
+    ensures { λ _. ⌜ now (store .exit) ≡ opening sframe (now (store .entry)) (now (metadata .entry)) (now (frame .entry)) (now (room .entry)) .store ⌝ }
     ensures { λ _. ⌜ now (room .exit) ≡ opening sframe (now (store .entry)) (now (metadata .entry)) (now (frame .entry)) (now (room .entry)) .room ⌝ }
 {
     if !store::is_sound(store) {
@@ -133,5 +156,10 @@ pub fn open(store: &[u8], frame: &[u8], metadata: &[u8], room: &mut [u8]) -> Ans
     let Place::At(i) = store::find(store, kid) else {
         return refused(KID_MISSING);
     };
-    open_with(store::row_at(store, i), kid, ctr, n, metadata, frame, room)
+    let answer = open_with(store::row_at(store, i), kid, ctr, n, metadata, frame, room);
+    if answer.number != DONE {
+        return answer;
+    }
+    store::note_at(store, i, ctr);
+    answer
 }

@@ -19,7 +19,7 @@ use Rattle.header.specs.declared.Written.{Written}
 use Rattle.header.specs.declared.Written.the-variants.{Length, NoRoom}
 use Rattle.answers.specs.Answers.{done, storeInvalid, kidMissing, roleRefused, counterSpent, inputTooLong, first, Outcome, settled}
 use Rattle.answers.specs.Limits.{maxPlaintext, maxMetadata, tooLong}
-use Rattle.answers.proofs.Basics.{Two, yes′, no′, two, told-false, passes, settled-done, settled-refused}
+use Rattle.answers.proofs.Basics.{Two, yes′, no′, two, told-false, passes, settled-done, settled-refused, Leaves, leaves}
 use Rattle.answers.proofs.Limits.{not-long}
 use Rattle.suites.specs.Suites.{Nt}
 use Rattle.suites.specs.inner.Sizes.{maxNt}
@@ -189,13 +189,6 @@ module _ (held : KeyRecord) (kid : ℕ) (metadata plaintext room : List ℕ) (c 
         ∙ ap (λ (t : List ℕ). t ++ drop end room) (sym next-is)
 
 -- ---- Seal
-
--- what a call answers, and what it leaves in store and room
-abbrev pub Leaves : Outcome → ℕ → ℕ → List ℕ → List ℕ → Type 0
-Leaves o number written store room = ((number ≡ o .number) × (written ≡ o .written)) × ((store ≡ o .store) × (room ≡ o .room))
-
-leaves : (o p : Outcome) → o ≡ p → Leaves o (p .number) (p .written) (p .store) (p .room)
-leaves o p e = ((sym (ap (λ (x : Outcome). x .number) e), sym (ap (λ (x : Outcome). x .written) e)), (sym (ap (λ (x : Outcome). x .store) e), sym (ap (λ (x : Outcome). x .room) e)))
 
 -- the success of Seal on a table, at the front of the room
 success : KeyRecord → List KeyRecord → ℕ → List ℕ → List ℕ → List ℕ → Outcome

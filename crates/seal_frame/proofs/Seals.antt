@@ -76,7 +76,7 @@ module _ (cipher : Cipher) (laws : Laws cipher) (s : List ℕ) (rs : List KeyRec
     sealed-by o held g (refusal d r) = refused (λ e. d (sym (r .number-is) ∙ e)) (r .store-stays)
     sealed-by o empty g (success p q) = absurd (false≢true (sym (p .1 .0)))
     sealed-by o (retired r) g (success p q) = absurd (false≢true (sym (p .1 .1 .0)))
-    sealed-by o (receiving r) g (success p q) = absurd (false≢true (sym (p .1 .1 .0)))
+    sealed-by o (receiving r w) g (success p q) = absurd (false≢true (sym (p .1 .1 .0)))
     sealed-by o (sending r) g (success p q) =
         let f : Fit (sending r) = rw g at (get-fit kid rs (t .table .fit)) in
         let h : holds kid (sending r) ≡ true = rw g at (get-holds kid rs (rw g)) in

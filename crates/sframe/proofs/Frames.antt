@@ -1,6 +1,7 @@
 -- From what every list of calls keeps true to the claims about its sealed frames. Assumes nothing.
 use mathlib.Core.Path.{_≡_, refl, sym, _∙_, ap}
 use mathlib.Core.List.{List, [], _∷_, _++_, append-assoc}
+use mathlib.Core.Bool.{false}
 use Prim.Native.Nat.{ℕ, zero, suc, _+_, _^_, _<_, _≤_}
 use native.Mathlib.Omega.{arith}
 use lib.ListN.{length, take, drop, length-append, take-append-drop}
@@ -15,9 +16,10 @@ use Rattle.store.specs.Cipher.{Cipher}
 use Rattle.answers.proofs.Basics.{Two, yes′, no′, two}
 use Rattle.store.proofs.CipherLaws.{Laws, Usable}
 use Rattle.open_frame.specs.Open.{opening}
+use Rattle.window.specs.Window.{seen, tooOld}
 use Rattle.seal_frame.specs.Frame.{frameWith, frame}
 use Rattle.sframe.specs.Promises.{kidOf, ctrOf, Begins, isSender, senders, OpenedTo, keyFrom, saltFrom, nonceOf, Holds, Frame, Pair, Kept}
-use Rattle.sframe.specs.History.{Adding, Sealing, Event, added, sealed, other}
+use Rattle.sframe.specs.History.{Adding, Sealing, Event, added, sealed, opened, other}
 use Rattle.sframe.proofs.Ledger.{Each, Fact, fact-reads, fact-kid, fact-ctr, Below, Proper}
 use Rattle.key_record.specs.Suites.{tagSize}
 use Rattle.sframe.proofs.Opens.{opens-exactly}
@@ -28,12 +30,14 @@ pub each-at : (P : Sealing → List Event → Type 0) (later earlier : List Even
 each-at P [] earlier x p = p .0
 each-at P (added a ∷ later) earlier x p = each-at P later earlier x p
 each-at P (sealed y ∷ later) earlier x p = each-at P later earlier x (p .1)
+each-at P (opened y ∷ later) earlier x p = each-at P later earlier x p
 each-at P (other ∷ later) earlier x p = each-at P later earlier x p
 
 pub each-after : (P : Sealing → List Event → Type 0) (later earlier : List Event) (x : Sealing) → Each P (later ++ (sealed x ∷ earlier)) → Each P earlier
 each-after P [] earlier x p = p .1
 each-after P (added a ∷ later) earlier x p = each-after P later earlier x p
 each-after P (sealed y ∷ later) earlier x p = each-after P later earlier x (p .1)
+each-after P (opened y ∷ later) earlier x p = each-after P later earlier x p
 each-after P (other ∷ later) earlier x p = each-after P later earlier x p
 
 senders-append : (kid : ℕ) (l m : List Event) → senders kid (l ++ m) ≡ senders kid l ++ senders kid m
@@ -45,6 +49,7 @@ senders-append kid (added a ∷ l) m = by (two (isSender kid a (a .role))) (send
     by (yes′ t) e = rw t (ap (λ (r : List Adding). a ∷ r) e)
     by (no′ t) e = rw t e
 senders-append kid (sealed x ∷ l) m = senders-append kid l m
+senders-append kid (opened x ∷ l) m = senders-append kid l m
 senders-append kid (other ∷ l) m = senders-append kid l m
 
 -- a list of one that ends in b is b
@@ -126,21 +131,25 @@ module _ (cipher : Cipher) (laws : Laws cipher) (x : Sealing) (earlier : List Ev
       f .frame-is
       ∙ (λ i. frameWith cipher (f .add .suite) (keyFrom cipher (f .add)) (saltFrom cipher (f .add)) (sym received i) (sym (fact-ctr cipher x earlier f) i) (x .metadata) (x .plaintext))
 
-  pub frame-opens : (s room : List ℕ) → Holds s (record { suite = f .add .suite; kid = kidOf x; salt = saltFrom cipher (f .add); key = keyFrom cipher (f .add) })
-      → length (x .plaintext) ≤ length room → OpenedTo (x .plaintext) (opening cipher s (x .metadata) (x .frame) room)
-  frame-opens s room h r =
+  pub frame-opens : (s room : List ℕ) (h : Holds s (record { suite = f .add .suite; kid = kidOf x; salt = saltFrom cipher (f .add); key = keyFrom cipher (f .add) })) → length (x .plaintext) ≤ length room
+      → seen (h .window) (ctrOf x) ≡ false → tooOld (h .window) (ctrOf x) ≡ false → OpenedTo (x .plaintext) (opening cipher s (x .metadata) (x .frame) room)
+  frame-opens s room h r new young =
       let n = body-length in
       opens-exactly cipher laws s (x .metadata) (x .frame) room (record { suite = f .add .suite; kid = kidOf x; salt = saltFrom cipher (f .add); key = keyFrom cipher (f .add) }) (ctrOf x) (length (header (f .kid) (f .ctr)))
       (record {
-        held = h;
-        metadata-octets = f .metadata-octets;
-        bytes-octets = frame-octets;
-        header-is =
-            fact-reads cipher x earlier f
-            ∙ (λ i. Header (record { 0 = sym (fact-kid cipher x earlier f) i }) (record { 0 = sym (fact-ctr cipher x earlier f) i }) (length (header (f .kid) (f .ctr))));
-        plaintext-most = omega (arith, f .plaintext-most);
-        metadata-most = f .metadata-most;
-        room-enough = omega arith;
+        offered = record {
+          held = h;
+          metadata-octets = f .metadata-octets;
+          bytes-octets = frame-octets;
+          header-is =
+              fact-reads cipher x earlier f
+              ∙ (λ i. Header (record { 0 = sym (fact-kid cipher x earlier f) i }) (record { 0 = sym (fact-ctr cipher x earlier f) i }) (length (header (f .kid) (f .ctr))));
+          plaintext-most = omega (arith, f .plaintext-most);
+          metadata-most = f .metadata-most;
+          room-enough = omega arith;
+        };
+        not-seen = new;
+        not-old = young;
       }) .yields (record { plaintext = x .plaintext; octets = f .plaintext-octets; is-frame = behind })
 
   pub frame-holds : Frame cipher x earlier

@@ -26,10 +26,14 @@ use Rattle.add_key.proofs.Adds.{AddStep, add-step}
 use Rattle.store.proofs.Stores.{Stored, Change}
 use Rattle.answers.specs.Limits.{maxPlaintext, maxMetadata}
 use Rattle.seal_frame.specs.Seal.{seal}
-use Rattle.open_frame.specs.Open.{openAt, opening}
+use Rattle.open_frame.specs.Open.{opening}
+use Rattle.open_frame.proofs.Opened.{Opened, OpenStep, open-step}
+use Rattle.report_window.specs.Report.{report}
+use Rattle.window.specs.Window.{moved}
+use Rattle.window.specs.declared.Window.{Window}
 use Rattle.seal_frame.specs.Frame.{frameWith, frame}
 use Rattle.sframe.specs.Promises.{kidOf, ctrOf, senders, keyFrom, saltFrom}
-use Rattle.sframe.specs.History.{Call, Add, Remove, Seal, Open, Typed, AllTyped, Adding, Sealing, Event, added, sealed, other, event, History, outcome, step, run, start}
+use Rattle.sframe.specs.History.{Call, Add, Remove, Seal, Open, Report, Typed, AllTyped, Adding, Sealing, Event, added, sealed, opened, other, event, History, outcome, step, run, start}
 use Rattle.key_record.specs.Suites.{isSuite}
 use Rattle.seal_frame.proofs.Seals.{next, Sealed, SealStep, seal-step}
 use Rattle.key_record.specs.declared.Role.{Role}
@@ -42,12 +46,14 @@ abbrev pub Each : (Sealing → List Event → Type 0) → List Event → Type 0
 Each P [] = Unit {0}
 Each P (added a ∷ log) = Each P log
 Each P (sealed x ∷ log) = P x log × Each P log
+Each P (opened x ∷ log) = Each P log
 Each P (other ∷ log) = Each P log
 
 pub each-map : (P Q : Sealing → List Event → Type 0) → ((x : Sealing) (l : List Event) → P x l → Q x l) → (log : List Event) → Each P log → Each Q log
 each-map P Q f [] p = tt
 each-map P Q f (added a ∷ log) p = each-map P Q f log p
 each-map P Q f (sealed x ∷ log) p = (f x log (p .0), each-map P Q f log (p .1))
+each-map P Q f (opened x ∷ log) p = each-map P Q f log p
 each-map P Q f (other ∷ log) p = each-map P Q f log p
 
 -- a frame that was sealed, and under which Add
@@ -108,7 +114,7 @@ pub record Source (cipher : Cipher) (r : SendingKey) (l : List Adding) : Type 0 
 abbrev pub Entry : Cipher → KeyRecord → List Adding → Type 0
 Entry cipher empty l = l ≡ []
 Entry cipher (sending r) l = Source cipher r l
-Entry cipher (receiving r) l = l ≡ []
+Entry cipher (receiving r w) l = l ≡ []
 Entry cipher (retired r) l = (a : Adding) × (l ≡ a ∷ [])
 
 pub record Account (cipher : Cipher) (rs : List KeyRecord) (log : List Event) : Type 0 where
@@ -198,8 +204,8 @@ module _ (cipher : Cipher) (rs : List KeyRecord) (log : List Event) (a : Account
 
   -- ---- Remove
 
-  freed-account : (r : ReceivingKey) (rs′ : List KeyRecord) → get kid rs ≡ receiving r → Change kid empty rs rs′ → Account cipher rs′ (other ∷ log)
-  freed-account r rs′ g c =
+  freed-account : (r : ReceivingKey) (w : Window) (rs′ : List KeyRecord) → get kid rs ≡ receiving r w → Change kid empty rs rs′ → Account cipher rs′ (other ∷ log)
+  freed-account r w rs′ g c =
       pass-by cipher rs′ log (record {
         ledger = ledger-change cipher kid empty rs rs′ c log log (a .ledger) (λ k d. refl) (rw g at (a .ledger kid));
         frames = a .frames;
@@ -214,6 +220,18 @@ module _ (cipher : Cipher) (rs : List KeyRecord) (log : List Event) (a : Account
         frames = a .frames;
         covered = covered-change cipher kid (kept (sending r)) rs rs′ c (rw g (omega arith)) log (a .covered);
       })
+
+  -- ---- Open
+
+  opened-account : (ctr : ℕ) (o : Outcome) (r : ReceivingKey) (w : Window) → Opened rs kid ctr o r w → Account cipher (put kid (receiving r (moved w ctr)) rs) (opened (record { kid = kid; ctr = ctr }) ∷ log)
+  unfolding senders
+  opened-account ctr o r w p = record {
+    ledger =
+        ledger-change cipher kid (receiving r (moved w ctr)) rs (put kid (receiving r (moved w ctr)) rs) (p .change) log (opened (record { kid = kid; ctr = ctr }) ∷ log) (a .ledger) (λ k d. refl)
+        (rw (p .found) at (a .ledger kid));
+    frames = a .frames;
+    covered = covered-change cipher kid (receiving r (moved w ctr)) rs (put kid (receiving r (moved w ctr)) rs) (p .change) (rw (p .found) (omega arith)) log (a .covered);
+  }
 
   -- ---- Seal
 
@@ -276,15 +294,15 @@ module _ (cipher : Cipher) (rs : List KeyRecord) (log : List Event) (a : Account
 
 -- ---- every list
 
-pub open-store : (cipher : Cipher) (s metadata bytes room : List ℕ) → opening cipher s metadata bytes room .store ≡ s
-unfolding opening openAt
-open-store cipher s metadata bytes room = settled-store _ s room _ refl
+pub report-store : (s : List ℕ) (kid : ℕ) → report s kid .store ≡ s
+unfolding report
+report-store s kid = settled-store _ s [] _ refl
 
 -- the event of a call is known once it is known whether the call answered 0
-happened : (n : ℕ) (e : Event) → n ≡ 0 → pick (eqb n 0) e other ≡ e
+pub happened : (n : ℕ) (e : Event) → n ≡ 0 → pick (eqb n 0) e other ≡ e
 happened n e z = rw (eq-eqb n 0 z)
 
-passed-by : (n : ℕ) (e : Event) → (n ≡ 0 → ⊥) → pick (eqb n 0) e other ≡ other
+pub passed-by : (n : ℕ) (e : Event) → (n ≡ 0 → ⊥) → pick (eqb n 0) e other ≡ other
 passed-by n e d = rw (ne-eqb n 0 d)
 
 module _ (cipher : Cipher) (h : History) (i : Inv cipher h) where
@@ -309,8 +327,8 @@ module _ (cipher : Cipher) (laws : Laws cipher) where
     where
       by : RemoveStep (h .store) (i .table) kid (remove (h .store) kid) → Inv cipher (step cipher (Remove kid) h)
       by (RemoveStep.refused d e) = stays cipher h i _ _ e refl
-      by (RemoveStep.freed r z g c st) =
-          goes-on cipher h i _ (clear kid (i .table)) other other st refl (freed-account cipher (i .table) (h .log) (i .account) kid r (clear kid (i .table)) g c)
+      by (RemoveStep.freed r w z g c st) =
+          goes-on cipher h i _ (clear kid (i .table)) other other st refl (freed-account cipher (i .table) (h .log) (i .account) kid r w (clear kid (i .table)) g c)
       by (RemoveStep.closed r z g c st) =
           goes-on cipher h i _ (put kid (kept (sending r)) (i .table)) other other st refl (closed-account cipher (i .table) (h .log) (i .account) kid r (put kid (kept (sending r)) (i .table)) g c)
   step-keeps (Seal kid metadata plaintext offset room) h q i = by (seal-step cipher laws (h .store) (i .table) (i .is-stored) kid metadata plaintext offset room)
@@ -320,7 +338,14 @@ module _ (cipher : Cipher) (laws : Laws cipher) where
       by (SealStep.done r p) =
           goes-on cipher h i _ (put kid (next r) (i .table)) _ (sealed (sealingOf metadata plaintext offset (seal cipher (h .store) kid metadata plaintext offset room))) (p .store-is) (happened _ _ (p .answers))
           (sealed-account cipher (i .table) (h .log) (i .account) kid metadata plaintext offset (seal cipher (h .store) kid metadata plaintext offset room) r (q .1) (q .2) p)
-  step-keeps (Open metadata bytes room) h q i = stays cipher h i _ _ (open-store cipher (h .store) metadata bytes room) refl
+  step-keeps (Open metadata bytes room) h q i = by (open-step cipher (h .store) (i .table) (i .is-stored) metadata bytes room (q .1))
+    where
+      by : OpenStep (h .store) (i .table) (readKid (readHeader bytes)) (readCtr (readHeader bytes)) (opening cipher (h .store) metadata bytes room) → Inv cipher (step cipher (Open metadata bytes room) h)
+      by (OpenStep.refused d e) = stays cipher h i _ _ e (passed-by _ _ d)
+      by (OpenStep.done r w p) =
+          goes-on cipher h i _ (put (readKid (readHeader bytes)) (receiving r (moved w (readCtr (readHeader bytes)))) (i .table)) _ (opened (record { kid = readKid (readHeader bytes); ctr = readCtr (readHeader bytes) })) (p .store-is) (happened _ _ (p .answers))
+          (opened-account cipher (i .table) (h .log) (i .account) (readKid (readHeader bytes)) (readCtr (readHeader bytes)) (opening cipher (h .store) metadata bytes room) r w p)
+  step-keeps (Report kid) h q i = stays cipher h i _ _ (report-store (h .store) kid) refl
 
   pub run-keeps : (cs : List Call) (h : History) → AllTyped cs → Inv cipher h → Inv cipher (run cipher cs h)
   unfolding run

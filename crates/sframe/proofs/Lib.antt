@@ -3,6 +3,7 @@ mod Ledger
 mod Logged
 pub mod Neighbours
 mod Never
+mod Once
 pub mod Opens
 pub mod Soundness
 pub mod Suites

@@ -15,7 +15,7 @@ use Rattle.pair_log.specs.Pairs.{recordSize, pairs, among, repeated}
 use Rattle.pair_log.specs.Report.{maxLog, decimal, line, report}
 use Rattle.pair_log.proofs.Repeats.{Distinct, repeated-none}
 use Rattle.pair_log.proofs.Reports.{pairs-written, report-none}
-use Rattle.sframe.specs.History.{Sealing, Event, added, sealed, other}
+use Rattle.sframe.specs.History.{Sealing, Event, added, sealed, opened, other}
 use Rattle.sframe.specs.Promises.{kidOf, ctrOf}
 use Rattle.sframe.specs.Logs.{sealings, TakenFirst, Taken, logOf}
 use Rattle.sframe.proofs.Ledger.{Each, fact-kid, fact-ctr, Below, Proper}
@@ -42,6 +42,7 @@ unfolding sealings
 others-below x [] b = tt
 others-below x (added a ∷ log) b = others-below x log b
 others-below x (sealed y ∷ log) b = ((λ p q. let h = b .0 (sym p) in omega (arith, h, q)), others-below x log (b .1))
+others-below x (opened y ∷ log) b = others-below x log b
 others-below x (other ∷ log) b = others-below x log b
 
 -- all sealings of a list of calls are apart
@@ -52,6 +53,7 @@ sealings-apart cipher (added a ∷ log) p = sealings-apart cipher log p
 sealings-apart cipher (sealed x ∷ log) p =
     let f = p .0 .0 in
     ((rw (fact-kid cipher x log f) (f .kid-below), rw (fact-ctr cipher x log f) (omega (arith, f .ctr-below))), others-below x log (p .0 .1), sealings-apart cipher log (p .1))
+sealings-apart cipher (opened x ∷ log) p = sealings-apart cipher log p
 sealings-apart cipher (other ∷ log) p = sealings-apart cipher log p
 
 -- ---- and so are those that are taken from them

@@ -2,17 +2,17 @@
 use mathlib.Core.Path.{_≡_, refl, sym, _∙_, ap, ap₂}
 use mathlib.Core.Bool.{true, false≢true}
 use mathlib.Core.List.{List}
-use Prim.Native.Nat.{ℕ, zero, suc, _*_, _<_}
+use Prim.Native.Nat.{ℕ, zero, suc, _<_}
 use lib.Dec.{leb}
 use lib.ListN.{length, getD, length-set, List·getD-eq-default}
 use lib.Seq.{getD-set-same, getD-set-other}
 use borrow.Author.Tests.{leb-true, leb-false}
 use Rattle.octets.specs.Octets.{Octets}
-use Rattle.header.specs.Answers.{readKid}
+use Rattle.header.specs.Answers.{readKid, readCtr}
 use Rattle.header.specs.Header.{readHeader}
 use Rattle.answers.specs.Answers.{Outcome, settled}
 use Rattle.store.specs.Cipher.{Cipher}
-use Rattle.key_record.specs.Record.{KeyRecord, empty, advanced, holds}
+use Rattle.key_record.specs.Record.{KeyRecord, empty, advanced, noted, holds}
 use Rattle.store.specs.Store.{records, sound}
 use Rattle.store.specs.Table.{get, put}
 use Rattle.answers.proofs.Basics.{Two, yes′, no′, two}
@@ -21,9 +21,8 @@ use Rattle.store.proofs.Stores.{Stored, sound-stored, stored-records, stored-le
 use Rattle.store.proofs.Tables.{get-at, put-at}
 use Rattle.seal_frame.specs.Seal.{sealAt, seal}
 use Rattle.open_frame.specs.Open.{openAt, opening}
+use Rattle.open_frame.proofs.Opened.{OpenStep, open-on, open-step}
 use Rattle.sframe.specs.Promises.{Alike, OthersStay, SameAnswer}
-use Rattle.sframe.proofs.Ledger.{open-store}
-use Rattle.sframe.proofs.Opens.{open-on}
 use Rattle.seal_frame.proofs.Seals.{next, SealStep, seal-step, seal-on}
 
 -- a place whose record holds a KID is a place of the table
@@ -44,117 +43,135 @@ unfolding settled
 settled-agree zero s t room o p a = a
 settled-agree (suc n) s t room o p a = (refl, refl, refl)
 
--- the record under the KID after a Seal that answered that number
-newRecord : ℕ → KeyRecord → KeyRecord
-newRecord zero held = advanced held
-newRecord (suc n) held = held
+-- ---- a call that changes the record of a KID where it answers 0, and else nothing
 
-module _ (cipher : Cipher) (laws : Laws cipher) (s : List ℕ) (kid place : ℕ) (os : Octets s) (ss : sound s ≡ true) (h : holds kid (getD (records s) place empty) ≡ true) where
+data Changed (s : List ℕ) (kid : ℕ) (new : KeyRecord) (o : Outcome) : Type 0 where
+  changed : o .number ≡ 0 → Stored (o .store) (put kid new (records s)) → Changed s kid new o
+  stayed : (o .number ≡ 0 → ⊥) → o .store ≡ s → Changed s kid new o
+
+-- the record under the KID after a call that answered that number
+after : ℕ → KeyRecord → KeyRecord → KeyRecord
+after zero new held = new
+after (suc n) new held = held
+
+module _ (s : List ℕ) (kid place : ℕ) (os : Octets s) (ss : sound s ≡ true) (h : holds kid (getD (records s) place empty) ≡ true) where
   st : Stored s (records s)
   st = sound-stored s os ss
 
   here : get kid (records s) ≡ getD (records s) place empty
   here = get-at kid (records s) place (st .table .kids-apart) h
 
-  module _ (metadata plaintext : List ℕ) (offset : ℕ) (room : List ℕ) where
-    seal-at : seal cipher s kid metadata plaintext offset room ≡ sealAt cipher true (getD (records s) place empty) (records s) s kid metadata plaintext offset room
-    seal-at = seal-on cipher laws s (records s) st kid metadata plaintext offset room ∙ ap (λ (x : KeyRecord). sealAt cipher true x (records s) s kid metadata plaintext offset room) here
-
-    seal-record : getD (records (seal cipher s kid metadata plaintext offset room .store)) place empty ≡ newRecord (seal cipher s kid metadata plaintext offset room .number) (getD (records s) place empty)
-    unfolding newRecord advanced
-    seal-record = by (seal cipher s kid metadata plaintext offset room) (seal-step cipher laws s (records s) st kid metadata plaintext offset room)
+  module _ (new : KeyRecord) (o : Outcome) where
+    record-after : Changed s kid new o → getD (records (o .store)) place empty ≡ after (o .number) new (getD (records s) place empty)
+    unfolding after
+    record-after (changed z t) =
+        ap (λ (x : List KeyRecord). getD x place empty) (stored-records (o .store) (put kid new (records s)) t)
+        ∙ ap (λ (x : List KeyRecord). getD x place empty) (put-at kid new (records s) place (st .table .kids-apart) h)
+        ∙ getD-set-same (records s) place new empty (inside kid (records s) place h)
+        ∙ sym (ap (λ (n : ℕ). after n new (getD (records s) place empty)) z)
+    record-after (stayed d e) = ap (λ (x : List ℕ). getD (records x) place empty) e ∙ sym (stays (o .number) d)
       where
-        by : (o : Outcome) → SealStep cipher s (records s) kid metadata plaintext offset o → getD (records (o .store)) place empty ≡ newRecord (o .number) (getD (records s) place empty)
-        by o (SealStep.done r p) =
-            ap (λ (x : List KeyRecord). getD x place empty) (stored-records (o .store) (put kid (next r) (records s)) (p .store-is))
-            ∙ ap (λ (x : List KeyRecord). getD x place empty) (put-at kid (next r) (records s) place (st .table .kids-apart) h)
-            ∙ getD-set-same (records s) place (next r) empty (inside kid (records s) place h)
-            ∙ sym (ap₂ newRecord (p .answers) (sym here ∙ p .found))
-        by o (SealStep.refused d e) = ap (λ (x : List ℕ). getD (records x) place empty) e ∙ sym (stays (o .number) d)
-          where
-            stays : (n : ℕ) → (n ≡ 0 → ⊥) → newRecord n (getD (records s) place empty) ≡ getD (records s) place empty
-            stays zero d = absurd (d refl)
-            stays (suc n) d = refl
+        stays : (n : ℕ) → (n ≡ 0 → ⊥) → after n new (getD (records s) place empty) ≡ getD (records s) place empty
+        stays zero d = absurd (d refl)
+        stays (suc n) d = refl
 
-    seal-others : OthersStay s (seal cipher s kid metadata plaintext offset room) place
-    seal-others = by (seal cipher s kid metadata plaintext offset room) (seal-step cipher laws s (records s) st kid metadata plaintext offset room)
-      where
-        by : (o : Outcome) → SealStep cipher s (records s) kid metadata plaintext offset o → OthersStay s o place
-        by o (SealStep.refused d e) = record { length-stays = ap length e; others-stay = λ j d. ap (λ (x : List ℕ). getD (records x) j empty) e }
-        by o (SealStep.done r p) =
-            let q = put-at kid (next r) (records s) place (st .table .kids-apart) h in
-            record {
-              length-stays =
-                  stored-lengths (o .store) s (put kid (next r) (records s)) (records s) (p .store-is) st (ap length q ∙ length-set (records s) place (next r));
-              others-stay = λ j d.
-                  ap (λ (x : List KeyRecord). getD x j empty) (stored-records (o .store) (put kid (next r) (records s)) (p .store-is) ∙ q)
-                  ∙ getD-set-other (records s) place j (next r) empty d;
-            }
+    others-after : Changed s kid new o → OthersStay s o place
+    others-after (stayed d e) = record { length-stays = ap length e; others-stay = λ j d. ap (λ (x : List ℕ). getD (records x) j empty) e }
+    others-after (changed z t) =
+        let q = put-at kid new (records s) place (st .table .kids-apart) h in
+        record {
+          length-stays = stored-lengths (o .store) s (put kid new (records s)) (records s) t st (ap length q ∙ length-set (records s) place new);
+          others-stay = λ j d.
+              ap (λ (x : List KeyRecord). getD x j empty) (stored-records (o .store) (put kid new (records s)) t ∙ q)
+              ∙ getD-set-other (records s) place j new empty d;
+        }
 
-module _ (cipher : Cipher) (laws : Laws cipher) (s t : List ℕ) (kid place : ℕ) (a : Alike s t kid place) where
+module _ (s t : List ℕ) (kid place : ℕ) (a : Alike s t kid place) where
   t-holds : holds kid (getD (records t) place empty) ≡ true
   t-holds = rw (a .alike) at (a .holds-kid)
 
-  module _ (metadata plaintext : List ℕ) (offset : ℕ) (room : List ℕ) where
-    on-s : seal cipher s kid metadata plaintext offset room ≡ sealAt cipher true (getD (records s) place empty) (records s) s kid metadata plaintext offset room
-    on-s = seal-at cipher laws s kid place (a .s-octets) (a .s-sound) (a .holds-kid) metadata plaintext offset room
-
-    on-t : seal cipher t kid metadata plaintext offset room ≡ sealAt cipher true (getD (records s) place empty) (records t) t kid metadata plaintext offset room
-    on-t =
-        seal-at cipher laws t kid place (a .t-octets) (a .t-sound) t-holds metadata plaintext offset room
-        ∙ ap (λ (x : KeyRecord). sealAt cipher true x (records t) t kid metadata plaintext offset room) (sym (a .alike))
-
-    answers : Agree (sealAt cipher true (getD (records s) place empty) (records s) s kid metadata plaintext offset room) (sealAt cipher true (getD (records s) place empty) (records t) t kid metadata plaintext offset room)
-    unfolding sealAt
-    answers = settled-agree _ s t room _ _ (refl, refl, refl)
-
-    number-same : seal cipher s kid metadata plaintext offset room .number ≡ seal cipher t kid metadata plaintext offset room .number
-    number-same = ap (λ (o : Outcome). o .number) on-s ∙ answers .0 ∙ sym (ap (λ (o : Outcome). o .number) on-t)
-
-    pub neighbours-seal : SameAnswer s t place (seal cipher s kid metadata plaintext offset room) (seal cipher t kid metadata plaintext offset room)
-    neighbours-seal = record {
-      same-number = number-same;
-      same-length = ap (λ (o : Outcome). o .written) on-s ∙ answers .1 ∙ sym (ap (λ (o : Outcome). o .written) on-t);
-      same-room = ap (λ (o : Outcome). o .room) on-s ∙ answers .2 ∙ sym (ap (λ (o : Outcome). o .room) on-t);
-      same-record =
-          seal-record cipher laws s kid place (a .s-octets) (a .s-sound) (a .holds-kid) metadata plaintext offset room
-          ∙ ap₂ newRecord number-same (a .alike)
-          ∙ sym (seal-record cipher laws t kid place (a .t-octets) (a .t-sound) t-holds metadata plaintext offset room);
-      s-others = seal-others cipher laws s kid place (a .s-octets) (a .s-sound) (a .holds-kid) metadata plaintext offset room;
-      t-others = seal-others cipher laws t kid place (a .t-octets) (a .t-sound) t-holds metadata plaintext offset room;
-    }
-
-module _ (cipher : Cipher) (laws : Laws cipher) (s t : List ℕ) (place : ℕ) (metadata bytes room : List ℕ) (a : Alike s t (readKid (readHeader bytes)) place) where
-  open-at : (x : List ℕ) → Octets x → sound x ≡ true → getD (records x) place empty ≡ getD (records s) place empty
-      → opening cipher x metadata bytes room ≡ openAt cipher true (readHeader bytes) (getD (records s) place empty) x metadata bytes room
-  open-at x o e q =
-      let y = sound-stored x o e in
-      open-on cipher laws x (records x) y metadata bytes room
-      ∙ ap (λ (r : KeyRecord). openAt cipher true (readHeader bytes) r x metadata bytes room)
-      (get-at (readKid (readHeader bytes)) (records x) place (y .table .kids-apart) (ap (holds (readKid (readHeader bytes))) q ∙ a .holds-kid) ∙ q)
-
-  open-others : (x : List ℕ) → OthersStay x (opening cipher x metadata bytes room) place
-  open-others x = record {
-    length-stays = ap length (open-store cipher x metadata bytes room);
-    others-stay = λ j d. ap (λ (l : List ℕ). getD (records l) j empty) (open-store cipher x metadata bytes room);
+  -- where such a call answers alike on both stores, and makes the record anew in one way
+  same-answer : (f : KeyRecord → KeyRecord) (o p : Outcome) → Agree o p → Changed s kid (f (getD (records s) place empty)) o → Changed t kid (f (getD (records t) place empty)) p → SameAnswer s t place o p
+  same-answer f o p g x y = record {
+    same-number = g .0;
+    same-length = g .1;
+    same-room = g .2;
+    same-record =
+        record-after s kid place (a .s-octets) (a .s-sound) (a .holds-kid) (f (getD (records s) place empty)) o x
+        ∙ ap₂ (λ (n : ℕ) (r : KeyRecord). after n (f r) r) (g .0) (a .alike)
+        ∙ sym (record-after t kid place (a .t-octets) (a .t-sound) t-holds (f (getD (records t) place empty)) p y);
+    s-others = others-after s kid place (a .s-octets) (a .s-sound) (a .holds-kid) (f (getD (records s) place empty)) o x;
+    t-others = others-after t kid place (a .t-octets) (a .t-sound) t-holds (f (getD (records t) place empty)) p y;
   }
 
-  open-answers : Agree (openAt cipher true (readHeader bytes) (getD (records s) place empty) s metadata bytes room) (openAt cipher true (readHeader bytes) (getD (records s) place empty) t metadata bytes room)
-  unfolding openAt
-  open-answers = settled-agree _ s t room _ _ (refl, refl, refl)
+-- ---- Seal
 
+module _ (cipher : Cipher) (laws : Laws cipher) (s : List ℕ) (kid place : ℕ) (os : Octets s) (ss : sound s ≡ true) (h : holds kid (getD (records s) place empty) ≡ true)
+    (metadata plaintext : List ℕ) (offset : ℕ) (room : List ℕ) where
+  seal-at : seal cipher s kid metadata plaintext offset room ≡ sealAt cipher true (getD (records s) place empty) (records s) s kid metadata plaintext offset room
+  seal-at =
+      seal-on cipher laws s (records s) (st s kid place os ss h) kid metadata plaintext offset room
+      ∙ ap (λ (x : KeyRecord). sealAt cipher true x (records s) s kid metadata plaintext offset room) (here s kid place os ss h)
+
+  seal-changed : Changed s kid (advanced (getD (records s) place empty)) (seal cipher s kid metadata plaintext offset room)
+  unfolding advanced
+  seal-changed = by (seal cipher s kid metadata plaintext offset room) (seal-step cipher laws s (records s) (st s kid place os ss h) kid metadata plaintext offset room)
+    where
+      by : (o : Outcome) → SealStep cipher s (records s) kid metadata plaintext offset o → Changed s kid (advanced (getD (records s) place empty)) o
+      by o (SealStep.done r p) =
+          let e : next r ≡ advanced (getD (records s) place empty) = ap advanced (sym (p .found) ∙ here s kid place os ss h) in
+          changed (p .answers) (rw e at (p .store-is))
+      by o (SealStep.refused d e) = stayed d e
+
+module _ (cipher : Cipher) (laws : Laws cipher) (s t : List ℕ) (kid place : ℕ) (a : Alike s t kid place) where
+  pub neighbours-seal : (metadata plaintext : List ℕ) (offset : ℕ) (room : List ℕ)
+      → SameAnswer s t place (seal cipher s kid metadata plaintext offset room) (seal cipher t kid metadata plaintext offset room)
+  unfolding sealAt
+  neighbours-seal metadata plaintext offset room =
+      let held = getD (records s) place empty in
+      let on-s = seal-at cipher laws s kid place (a .s-octets) (a .s-sound) (a .holds-kid) metadata plaintext offset room in
+      let on-t = seal-at cipher laws t kid place (a .t-octets) (a .t-sound) (t-holds s t kid place a) metadata plaintext offset room ∙ ap (λ (x : KeyRecord). sealAt cipher true x (records t) t kid metadata plaintext offset room) (sym (a .alike)) in
+      let g : Agree (sealAt cipher true held (records s) s kid metadata plaintext offset room) (sealAt cipher true held (records t) t kid metadata plaintext offset room) = settled-agree _ s t room _ _ (refl, refl, refl) in
+      same-answer s t kid place a advanced (seal cipher s kid metadata plaintext offset room) (seal cipher t kid metadata plaintext offset room) (
+        ap (λ (o : Outcome). o .number) on-s ∙ g .0 ∙ sym (ap (λ (o : Outcome). o .number) on-t),
+        ap (λ (o : Outcome). o .written) on-s ∙ g .1 ∙ sym (ap (λ (o : Outcome). o .written) on-t),
+        ap (λ (o : Outcome). o .room) on-s ∙ g .2 ∙ sym (ap (λ (o : Outcome). o .room) on-t),
+      )
+      (seal-changed cipher laws s kid place (a .s-octets) (a .s-sound) (a .holds-kid) metadata plaintext offset room)
+      (seal-changed cipher laws t kid place (a .t-octets) (a .t-sound) (t-holds s t kid place a) metadata plaintext offset room)
+
+-- ---- Open
+
+module _ (cipher : Cipher) (s : List ℕ) (place : ℕ) (os : Octets s) (ss : sound s ≡ true) (metadata bytes room : List ℕ) (ob : Octets bytes)
+    (h : holds (readKid (readHeader bytes)) (getD (records s) place empty) ≡ true) where
+  open-at : opening cipher s metadata bytes room ≡ openAt cipher true (readHeader bytes) (getD (records s) place empty) (records s) s metadata bytes room
+  open-at =
+      open-on cipher s (records s) (st s (readKid (readHeader bytes)) place os ss h) metadata bytes room
+      ∙ ap (λ (x : KeyRecord). openAt cipher true (readHeader bytes) x (records s) s metadata bytes room) (here s (readKid (readHeader bytes)) place os ss h)
+
+  open-changed : Changed s (readKid (readHeader bytes)) (noted (readCtr (readHeader bytes)) (getD (records s) place empty)) (opening cipher s metadata bytes room)
+  unfolding noted
+  open-changed = by (opening cipher s metadata bytes room) (open-step cipher s (records s) (st s (readKid (readHeader bytes)) place os ss h) metadata bytes room ob)
+    where
+      by : (o : Outcome) → OpenStep s (records s) (readKid (readHeader bytes)) (readCtr (readHeader bytes)) o → Changed s (readKid (readHeader bytes)) (noted (readCtr (readHeader bytes)) (getD (records s) place empty)) o
+      by o (OpenStep.done r w p) =
+          let e = ap (noted (readCtr (readHeader bytes))) (sym (p .found) ∙ here s (readKid (readHeader bytes)) place os ss h) in
+          changed (p .answers) (rw e at (p .store-is))
+      by o (OpenStep.refused d e) = stayed d e
+
+module _ (cipher : Cipher) (s t : List ℕ) (place : ℕ) (metadata bytes room : List ℕ) (ob : Octets bytes) (a : Alike s t (readKid (readHeader bytes)) place) where
   pub neighbours-open : SameAnswer s t place (opening cipher s metadata bytes room) (opening cipher t metadata bytes room)
+  unfolding openAt
   neighbours-open =
-      let on-s = open-at s (a .s-octets) (a .s-sound) refl in
-      let on-t = open-at t (a .t-octets) (a .t-sound) (sym (a .alike)) in
-      record {
-        same-number = ap (λ (o : Outcome). o .number) on-s ∙ open-answers .0 ∙ sym (ap (λ (o : Outcome). o .number) on-t);
-        same-length = ap (λ (o : Outcome). o .written) on-s ∙ open-answers .1 ∙ sym (ap (λ (o : Outcome). o .written) on-t);
-        same-room = ap (λ (o : Outcome). o .room) on-s ∙ open-answers .2 ∙ sym (ap (λ (o : Outcome). o .room) on-t);
-        same-record =
-            ap (λ (l : List ℕ). getD (records l) place empty) (open-store cipher s metadata bytes room)
-            ∙ a .alike
-            ∙ sym (ap (λ (l : List ℕ). getD (records l) place empty) (open-store cipher t metadata bytes room));
-        s-others = open-others s;
-        t-others = open-others t;
-      }
+      let held = getD (records s) place empty in
+      let th = t-holds s t (readKid (readHeader bytes)) place a in
+      let on-s = open-at cipher s place (a .s-octets) (a .s-sound) metadata bytes room ob (a .holds-kid) in
+      let on-t = open-at cipher t place (a .t-octets) (a .t-sound) metadata bytes room ob th ∙ ap (λ (x : KeyRecord). openAt cipher true (readHeader bytes) x (records t) t metadata bytes room) (sym (a .alike)) in
+      let g : Agree (openAt cipher true (readHeader bytes) held (records s) s metadata bytes room) (openAt cipher true (readHeader bytes) held (records t) t metadata bytes room) = settled-agree _ s t room _ _ (refl, refl, refl) in
+      same-answer s t (readKid (readHeader bytes)) place a (noted (readCtr (readHeader bytes))) (opening cipher s metadata bytes room) (opening cipher t metadata bytes room) (
+        ap (λ (o : Outcome). o .number) on-s ∙ g .0 ∙ sym (ap (λ (o : Outcome). o .number) on-t),
+        ap (λ (o : Outcome). o .written) on-s ∙ g .1 ∙ sym (ap (λ (o : Outcome). o .written) on-t),
+        ap (λ (o : Outcome). o .room) on-s ∙ g .2 ∙ sym (ap (λ (o : Outcome). o .room) on-t),
+      )
+      (open-changed cipher s place (a .s-octets) (a .s-sound) metadata bytes room ob (a .holds-kid))
+      (open-changed cipher t place (a .t-octets) (a .t-sound) metadata bytes room ob th)

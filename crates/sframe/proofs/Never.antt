@@ -19,7 +19,8 @@ use Rattle.store.proofs.CipherLaws.{Laws}
 use Rattle.add_key.specs.Add.{barred, add}
 use Rattle.add_key.proofs.Adds.{AddStep, add-step}
 use Rattle.seal_frame.specs.Seal.{seal}
-use Rattle.sframe.specs.History.{Call, Add, Remove, Seal, Open, Typed, AllTyped, Adding, Sealing, Event, added, sealed, other, event, History, outcome, step, run, start}
+use Rattle.open_frame.specs.Open.{opening}
+use Rattle.sframe.specs.History.{Call, Add, Remove, Seal, Open, Report, Typed, AllTyped, Adding, Sealing, Event, added, sealed, opened, other, event, History, outcome, step, run, start}
 use Rattle.sframe.specs.Promises.{isSender, senders, NeverAgain, NoneBarred}
 use Rattle.sframe.proofs.Ledger.{Inv, step-keeps}
 
@@ -32,6 +33,7 @@ abbrev pub Fresh : List Event → Type 0
 Fresh [] = Unit {0}
 Fresh (added a ∷ log) = New (a .role) (a .kid) (a .suite) log × Fresh log
 Fresh (sealed x ∷ log) = Fresh log
+Fresh (opened x ∷ log) = Fresh log
 Fresh (other ∷ log) = Fresh log
 
 module _ (cipher : Cipher) (laws : Laws cipher) where
@@ -56,7 +58,12 @@ module _ (cipher : Cipher) (laws : Laws cipher) where
       by : Two (eqb (seal cipher (h .store) kid metadata plaintext offset room .number) 0) → Fresh (step cipher (Seal kid metadata plaintext offset room) h .log)
       by (yes′ t) = rw t p
       by (no′ t) = rw t p
-  fresh-step (Open metadata frame room) h q i p = p
+  fresh-step (Open metadata frame room) h q i p = by (two (eqb (opening cipher (h .store) metadata frame room .number) 0))
+    where
+      by : Two (eqb (opening cipher (h .store) metadata frame room .number) 0) → Fresh (step cipher (Open metadata frame room) h .log)
+      by (yes′ t) = rw t p
+      by (no′ t) = rw t p
+  fresh-step (Report kid) h q i p = p
 
   pub run-fresh : (cs : List Call) (h : History) → AllTyped cs → Inv cipher h → Fresh (h .log) → Fresh (run cipher cs h .log)
   unfolding run
@@ -80,12 +87,14 @@ among kid (added a ∷ l) earlier b r k e = by (two (isSender kid a (a .role))) 
     by (yes′ t) f = some-not-none a _ (rw t at e)
     by (no′ t) f = f (rw t at e)
 among kid (sealed x ∷ l) earlier b r k e = among kid l earlier b r k e
+among kid (opened x ∷ l) earlier b r k e = among kid l earlier b r k e
 among kid (other ∷ l) earlier b r k e = among kid l earlier b r k e
 
 fresh-at : (later rest : List Event) (a : Adding) → Fresh (later ++ (added a ∷ rest)) → New (a .role) (a .kid) (a .suite) rest
 fresh-at [] rest a p = p .0
 fresh-at (added x ∷ later) rest a p = fresh-at later rest a (p .1)
 fresh-at (sealed x ∷ later) rest a p = fresh-at later rest a p
+fresh-at (opened x ∷ later) rest a p = fresh-at later rest a p
 fresh-at (other ∷ later) rest a p = fresh-at later rest a p
 
 pub fresh-never : (log : List Event) → Fresh log → NeverAgain log

@@ -17,9 +17,13 @@ use Rattle.add_key.proofs.Adds.{AddStep, add-step}
 use Rattle.store.proofs.Stores.{Stored, sound-stored, stored-sound, stored-octets}
 use Rattle.seal_frame.specs.Seal.{sealAt, seal}
 use Rattle.open_frame.specs.Open.{openAt, opening}
+use Rattle.open_frame.proofs.Opened.{OpenStep, open-step}
+use Rattle.report_window.specs.Report.{report}
+use Rattle.header.specs.Answers.{readKid, readCtr}
+use Rattle.header.specs.Header.{readHeader}
 use Rattle.sframe.specs.Promises.{Unchanged}
-use Rattle.sframe.specs.History.{Call, Add, Remove, Seal, Open, Typed, outcome}
-use Rattle.sframe.proofs.Ledger.{open-store}
+use Rattle.sframe.specs.History.{Call, Add, Remove, Seal, Open, Report, Typed, outcome}
+use Rattle.sframe.proofs.Ledger.{report-store}
 use Rattle.seal_frame.proofs.Seals.{SealStep, seal-step}
 
 -- bytes that are a table are a sound store
@@ -40,7 +44,7 @@ module _ (cipher : Cipher) (laws : Laws cipher) where
   call-sound (Remove kid) s q o e = by (remove s kid) (remove-step s (records s) (sound-stored s o e) kid)
     where
       by : (x : Outcome) → RemoveStep s (records s) kid x → Octets (x .store) × (sound (x .store) ≡ true)
-      by x (RemoveStep.freed r z g c t) = sound-bytes (x .store) _ t
+      by x (RemoveStep.freed r w z g c t) = sound-bytes (x .store) _ t
       by x (RemoveStep.closed r z g c t) = sound-bytes (x .store) _ t
       by x (RemoveStep.refused d p) = rw p (o, e)
   call-sound (Seal kid metadata plaintext offset room) s q o e =
@@ -49,7 +53,12 @@ module _ (cipher : Cipher) (laws : Laws cipher) where
       by : (x : Outcome) → SealStep cipher s (records s) kid metadata plaintext offset x → Octets (x .store) × (sound (x .store) ≡ true)
       by x (SealStep.done r p) = sound-bytes (x .store) _ (p .store-is)
       by x (SealStep.refused d p) = rw p (o, e)
-  call-sound (Open metadata bytes room) s q o e = rw (open-store cipher s metadata bytes room) (o, e)
+  call-sound (Open metadata bytes room) s q o e = by (opening cipher s metadata bytes room) (open-step cipher s (records s) (sound-stored s o e) metadata bytes room (q .1))
+    where
+      by : (x : Outcome) → OpenStep s (records s) (readKid (readHeader bytes)) (readCtr (readHeader bytes)) x → Octets (x .store) × (sound (x .store) ≡ true)
+      by x (OpenStep.done r w p) = sound-bytes (x .store) _ (p .store-is)
+      by x (OpenStep.refused d p) = rw p (o, e)
+  call-sound (Report kid) s q o e = rw (report-store s kid) (o, e)
 
 -- ---- refusals
 
@@ -61,8 +70,9 @@ unchanged (suc n) s room o z d = (refl, refl, refl)
 
 -- of any store, sound or not
 pub refusal-changes-nothing : (cipher : Cipher) (c : Call) (s : List ℕ) → (outcome cipher c s .number ≡ 0 → ⊥) → Unchanged c s (outcome cipher c s)
-unfolding outcome add addAt remove removeAt seal sealAt opening openAt
+unfolding outcome add addAt remove removeAt seal sealAt opening openAt report
 refusal-changes-nothing cipher (Add role kid suite base) s d = let u = unchanged _ s [] _ refl d in record { nothing-written = u .0; store-stays = u .1; room-stays = u .2 }
 refusal-changes-nothing cipher (Remove kid) s d = let u = unchanged _ s [] _ refl d in record { nothing-written = u .0; store-stays = u .1; room-stays = u .2 }
 refusal-changes-nothing cipher (Seal kid metadata plaintext offset room) s d = let u = unchanged _ s room _ refl d in record { nothing-written = u .0; store-stays = u .1; room-stays = u .2 }
 refusal-changes-nothing cipher (Open metadata bytes room) s d = let u = unchanged _ s room _ refl d in record { nothing-written = u .0; store-stays = u .1; room-stays = u .2 }
+refusal-changes-nothing cipher (Report kid) s d = let u = unchanged _ s [] _ refl d in record { nothing-written = u .0; store-stays = u .1; room-stays = u .2 }

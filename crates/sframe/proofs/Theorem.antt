@@ -4,20 +4,23 @@
 use mathlib.Core.Path.{_≡_}
 use mathlib.Core.Bool.{true}
 use mathlib.Core.List.{List, _++_}
-use Prim.Native.Nat.{ℕ, _≤_}
+use Prim.Native.Nat.{ℕ, _-_, _≤_}
 use native.Mathlib.Omega.{arith}
 use lib.ListN.{length}
 use Rattle.octets.specs.Octets.{Octets, ascii}
 use Rattle.header.specs.Answers.{readKid}
 use Rattle.header.specs.Header.{readHeader}
+use Rattle.answers.specs.Answers.{alreadyOpened, counterTooOld}
+use Rattle.window.specs.Window.{fresh}
 use Rattle.store.specs.Calls.{make}
 use Rattle.store.specs.Cipher.{Cipher}
 use Rattle.key_record.specs.Record.{ReceivingKey}
+use Rattle.key_record.specs.Suites.{tagSize}
 use Rattle.store.specs.Store.{sound}
 use Rattle.pair_log.specs.Report.{decimal, line, report}
 use Rattle.seal_frame.specs.Seal.{seal}
 use Rattle.open_frame.specs.Open.{opening}
-use Rattle.sframe.specs.Promises.{Kept, NeverAgain, NoneBarred, Openable, OpensExactly, Alike, SameAnswer, Unchanged}
+use Rattle.sframe.specs.Promises.{Kept, NeverAgain, NoneBarred, OpenedOnce, Offered, WindowCauses, Openable, OpensExactly, Alike, SameAnswer, Unchanged}
 use Rattle.store.specs.Sframe.{sframe}
 use Rattle.sframe.specs.History.{Call, Sealing, Typed, AllTyped, outcome, run, start}
 use Rattle.sframe.specs.Logs.{sealings, Taken, logOf}
@@ -26,7 +29,8 @@ use Rattle.sframe.proofs.Ledger.{run-keeps, start-keeps}
 use Rattle.sframe.proofs.Logged.{sealings-apart, apart-taken, log-reported}
 use Rattle.sframe.proofs.Neighbours.{neighbours-seal, neighbours-open}
 use Rattle.sframe.proofs.Never.{Fresh, run-fresh, fresh-never, fresh-allowed}
-use Rattle.sframe.proofs.Opens.{opens-exactly}
+use Rattle.sframe.proofs.Once.{run-watch, start-watch, once}
+use Rattle.sframe.proofs.Opens.{opens-exactly, window-causes-are, fresh-passes}
 use Rattle.sframe.proofs.Suites.{suites-laws}
 use Rattle.sframe.proofs.Soundness.{made-sound, call-sound, refusal-changes-nothing}
 
@@ -58,18 +62,35 @@ our-log s made calls typed xs taken h =
     let a = sealings-apart sframe (run sframe calls (start s) .log) (i .account .frames) in
     log-reported xs (apart-taken (sealings (run sframe calls (start s) .log)) xs taken a) (omega arith)
 
+-- Over every such list, no frame is opened twice while its key stays: between two Opens that answer 0 with one KID and counter stands
+-- an Add of that KID that answers 0.
+pub opened-once : (s : List ℕ) → make s .number ≡ 0 → (calls : List Call) → AllTyped calls → OpenedOnce (run sframe calls (start s) .log)
+opened-once s made calls typed = once (run sframe calls (start s) .log) (run-watch sframe suites-laws calls (start s) typed (start-watch s made) .each)
+
 -- Opening succeeds exactly when the frame is the RFC's encryption of some plaintext, and yields that plaintext.
-pub opening-exact : (s metadata bytes room : List ℕ) (r : ReceivingKey) (ctr n : ℕ) → Openable sframe s metadata bytes room r ctr n → OpensExactly sframe s metadata bytes room r ctr n
+pub opening-exact : (s metadata bytes room : List ℕ) (r : ReceivingKey) (ctr n : ℕ) (q : Openable sframe s metadata bytes room r ctr n)
+    → OpensExactly sframe s metadata bytes room r (q .offered .held .window) ctr n
 opening-exact = opens-exactly sframe suites-laws
+
+-- Of a frame that has a tag, and sizes and room that suffice: 14 is answered exactly when its counter was opened, 15 exactly when that
+-- lies 64 or more below the highest.
+pub window-causes : (s metadata bytes room : List ℕ) (r : ReceivingKey) (ctr n : ℕ) (g : Offered sframe s metadata bytes room r ctr n) → tagSize (r .suite) ≤ length bytes - n
+    → WindowCauses sframe s metadata bytes room (g .held .window) ctr
+window-causes = window-causes-are sframe suites-laws
+
+-- With a key with which nothing was opened yet, neither is answered.
+pub window-fresh : (s metadata bytes room : List ℕ) (r : ReceivingKey) (ctr n : ℕ) (g : Offered sframe s metadata bytes room r ctr n) → g .held .window ≡ fresh
+    → (opening sframe s metadata bytes room .number ≡ alreadyOpened → ⊥) × (opening sframe s metadata bytes room .number ≡ counterTooOld → ⊥)
+window-fresh = fresh-passes sframe suites-laws
 
 -- Sealing and opening depend on other records only through soundness, and change none of them.
 pub sealing-alone : (s t : List ℕ) (kid place : ℕ) → Alike s t kid place → (metadata plaintext : List ℕ) (offset : ℕ) (room : List ℕ)
     → SameAnswer s t place (seal sframe s kid metadata plaintext offset room) (seal sframe t kid metadata plaintext offset room)
 sealing-alone = neighbours-seal sframe suites-laws
 
-pub opening-alone : (s t : List ℕ) (place : ℕ) (metadata bytes room : List ℕ) → Alike s t (readKid (readHeader bytes)) place
+pub opening-alone : (s t : List ℕ) (place : ℕ) (metadata bytes room : List ℕ) → Octets bytes → Alike s t (readKid (readHeader bytes)) place
     → SameAnswer s t place (opening sframe s metadata bytes room) (opening sframe t metadata bytes room)
-opening-alone = neighbours-open sframe suites-laws
+opening-alone = neighbours-open sframe
 
 -- Every call leaves a sound store sound.
 pub stays-sound : (c : Call) (s : List ℕ) → Typed c → Octets s → sound s ≡ true → Octets (outcome sframe c s .store) × (sound (outcome sframe c s .store) ≡ true)

@@ -5,12 +5,15 @@ use Prim.Native.Nat.{ℕ, _^_, _<_}
 use lib.Dec.{eqb}
 use lib.ListN.{take, drop}
 use Rattle.octets.specs.Octets.{Octets, pick}
+use Rattle.header.specs.Answers.{readKid, readCtr}
+use Rattle.header.specs.Header.{readHeader}
 use Rattle.answers.specs.Answers.{Outcome}
 use Rattle.store.specs.Calls.{make, remove}
 use Rattle.add_key.specs.Add.{add}
 use Rattle.store.specs.Cipher.{Cipher}
 use Rattle.seal_frame.specs.Seal.{seal}
 use Rattle.open_frame.specs.Open.{opening}
+use Rattle.report_window.specs.Report.{report}
 use Rattle.key_record.specs.declared.Role.{Role}
 
 -- A call with its inputs and its room.
@@ -19,6 +22,7 @@ pub data Call : Type 0 where
   Remove : (kid : ℕ) → Call
   Seal : (kid : ℕ) (metadata plaintext : List ℕ) (offset : ℕ) (room : List ℕ) → Call
   Open : (metadata frame room : List ℕ) → Call
+  Report : (kid : ℕ) → Call
 
 -- The inputs are what the types of the code admit: a KID has 64 bits, everything lent is bytes.
 abbrev pub Typed : Call → Type 0
@@ -26,6 +30,7 @@ Typed (Add role kid suite base) = (kid < 2 ^ 64) × Octets base
 Typed (Remove kid) = kid < 2 ^ 64
 Typed (Seal kid metadata plaintext offset room) = (kid < 2 ^ 64) × Octets metadata × Octets plaintext × Octets room
 Typed (Open metadata frame room) = Octets metadata × Octets frame × Octets room
+Typed (Report kid) = kid < 2 ^ 64
 
 -- The room that a call is lent.
 abbrev pub roomOf : Call → List ℕ
@@ -33,6 +38,7 @@ roomOf (Add role kid suite base) = []
 roomOf (Remove kid) = []
 roomOf (Seal kid metadata plaintext offset room) = room
 roomOf (Open metadata frame room) = room
+roomOf (Report kid) = []
 
 abbrev pub AllTyped : List Call → Type 0
 AllTyped [] = Unit {0}
@@ -51,17 +57,24 @@ pub record Sealing : Type 0 where
   pub plaintext : List ℕ
   pub frame : List ℕ
 
--- What a call yields; every refused call, every Remove and every Open is one of the others.
+-- An Open that answered 0, by the KID and the counter that its frame's header gives.
+pub record Opening : Type 0 where
+  pub kid : ℕ
+  pub ctr : ℕ
+
+-- What a call yields; every refused call, every Remove and every Report is one of the others.
 pub data Event : Type 0 where
   added : Adding → Event
   sealed : Sealing → Event
+  opened : Opening → Event
   other : Event
 
 unfoldable pub event : Call → Outcome → Event
 event (Add role kid suite base) o = pick (eqb (o .number) 0) (added (record { role = role; kid = kid; suite = suite; base = base })) other
 event (Remove kid) o = other
 event (Seal kid metadata plaintext offset room) o = pick (eqb (o .number) 0) (sealed (record { metadata = metadata; plaintext = plaintext; frame = take (o .written) (drop offset (o .room)) })) other
-event (Open metadata frame room) o = other
+event (Open metadata frame room) o = pick (eqb (o .number) 0) (opened (record { kid = readKid (readHeader frame); ctr = readCtr (readHeader frame) })) other
+event (Report kid) o = other
 
 -- The store, and the events so far, the newest first.
 pub record History : Type 0 where
@@ -74,6 +87,7 @@ module _ (cipher : Cipher) where
   outcome (Remove kid) s = remove s kid
   outcome (Seal kid metadata plaintext offset room) s = seal cipher s kid metadata plaintext offset room
   outcome (Open metadata frame room) s = opening cipher s metadata frame room
+  outcome (Report kid) s = report s kid
 
   unfoldable pub step : Call → History → History
   step c h =

@@ -3,7 +3,7 @@ use mathlib.Core.Path.{_≡_}
 use mathlib.Core.List.{List, [], _∷_, _++_}
 use Prim.Native.Nat.{ℕ}
 use Rattle.octets.specs.Octets.{bytes}
-use Rattle.sframe.specs.History.{Sealing, Event, added, sealed, other}
+use Rattle.sframe.specs.History.{Sealing, Event, added, sealed, opened, other}
 use Rattle.sframe.specs.Promises.{kidOf, ctrOf}
 
 -- The sealings among the events.
@@ -11,6 +11,7 @@ unfoldable pub sealings : List Event → List Sealing
 sealings [] = []
 sealings (added a ∷ log) = sealings log
 sealings (sealed x ∷ log) = x ∷ sealings log
+sealings (opened x ∷ log) = sealings log
 sealings (other ∷ log) = sealings log
 
 -- x is taken from a list, and Next holds of what is left.

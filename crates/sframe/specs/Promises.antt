@@ -11,16 +11,19 @@ use Rattle.octets.specs.Octets.{Octets, pick}
 use Rattle.header.specs.Answers.{readKid, readCtr, done, readNumber}
 use Rattle.header.specs.Header.{readHeader}
 use Rattle.header.specs.declared.Reading.the-variants.{Header}
-use Rattle.answers.specs.Answers.{Outcome}
+use Rattle.answers.specs.Answers.{alreadyOpened, counterTooOld, Outcome}
 use Rattle.store.specs.Cipher.{Cipher}
 use Rattle.key_record.specs.Record.{ReceivingKey, empty, receiving, holds}
-use Rattle.store.specs.Store.{records, sound}
+use Rattle.store.specs.Store.{encodeAll, records, sound}
+use Rattle.store.specs.Table.{put}
+use Rattle.window.specs.Window.{seen, tooOld, moved}
+use Rattle.window.specs.declared.Window.{Window}
 use Rattle.answers.specs.Limits.{maxPlaintext, maxMetadata}
 use Rattle.add_key.specs.Add.{barred}
 use Rattle.open_frame.specs.Open.{opening}
 use Rattle.seal_frame.specs.Frame.{frameWith, frame}
 use Rattle.key_record.specs.Suites.{tagSize}
-use Rattle.sframe.specs.History.{Call, roomOf, Adding, Sealing, Event, added, sealed, other}
+use Rattle.sframe.specs.History.{Call, roomOf, Adding, Sealing, Opening, Event, added, sealed, opened, other}
 use Rattle.key_record.specs.declared.Role.{Role}
 use Rattle.key_record.specs.declared.Role.the-variants.{Sending, Receiving}
 
@@ -44,6 +47,7 @@ unfoldable pub senders : ℕ → List Event → List Adding
 senders kid [] = []
 senders kid (added a ∷ log) = pick (isSender kid a (a .role)) (a ∷ senders kid log) (senders kid log)
 senders kid (sealed x ∷ log) = senders kid log
+senders kid (opened x ∷ log) = senders kid log
 senders kid (other ∷ log) = senders kid log
 
 -- "Opened to it": done, with the plaintext's length, and the plaintext at the front of the room.
@@ -58,12 +62,13 @@ pub record Unchanged (c : Call) (s : List ℕ) (o : Outcome) : Type 0 where
   pub store-stays : o .store ≡ s
   pub room-stays : o .room ≡ roomOf c
 
--- A sound store holds a key for receiving: the record stands in it at some place.
+-- A sound store holds a key for receiving: the record stands in it at some place, with a window that may be any.
 pub record Holds (s : List ℕ) (r : ReceivingKey) : Type 0 where
   pub octets : Octets s
   pub is-sound : sound s ≡ true
   pub place : ℕ
-  pub holds-it : getD (records s) place empty ≡ receiving r
+  pub window : Window
+  pub holds-it : getD (records s) place empty ≡ receiving r window
 
 module _ (cipher : Cipher) where
   -- The key and the salt that RFC 9605 derives from an Add's base key, KID and suite.
@@ -87,7 +92,7 @@ module _ (cipher : Cipher) where
     pub is-frame : bytes ≡ frameWith cipher (r .suite) (r .key) (r .salt) (take n bytes) ctr metadata plaintext
 
   -- Where the store is sound and holds the frame's KID for receiving, and sizes and room suffice ..
-  pub record Openable (s metadata bytes room : List ℕ) (r : ReceivingKey) (ctr n : ℕ) : Type 0 where
+  pub record Offered (s metadata bytes room : List ℕ) (r : ReceivingKey) (ctr n : ℕ) : Type 0 where
     pub held : Holds s r
     pub metadata-octets : Octets metadata
     pub bytes-octets : Octets bytes
@@ -96,11 +101,25 @@ module _ (cipher : Cipher) where
     pub metadata-most : length metadata ≤ maxMetadata
     pub room-enough : length bytes - n - tagSize (r .suite) ≤ length room
 
-  -- .. opening succeeds exactly when the frame is such an encryption, and yields that plaintext; the room beyond it stays.
-  pub record OpensExactly (s metadata bytes room : List ℕ) (r : ReceivingKey) (ctr n : ℕ) : Type 0 where
+  -- .. a frame that has a tag is answered with 14 exactly when the held record's window w has seen its counter, and with 15 exactly
+  -- when that lies too far below the highest.
+  pub record WindowCauses (s metadata bytes room : List ℕ) (w : Window) (ctr : ℕ) : Type 0 where
+    pub opened-before : (opening cipher s metadata bytes room .number ≡ alreadyOpened) ↔ (seen w ctr ≡ true)
+    pub too-old : (opening cipher s metadata bytes room .number ≡ counterTooOld) ↔ (tooOld w ctr ≡ true)
+
+  -- Where moreover the window has neither against it ..
+  pub record Openable (s metadata bytes room : List ℕ) (r : ReceivingKey) (ctr n : ℕ) : Type 0 where
+    pub offered : Offered s metadata bytes room r ctr n
+    pub not-seen : seen (offered .held .window) ctr ≡ false
+    pub not-old : tooOld (offered .held .window) ctr ≡ false
+
+  -- .. opening succeeds exactly when the frame is such an encryption, and yields that plaintext; the room beyond it stays, and in the
+  -- store nothing changes but the window w of the held record, which has the counter then.
+  pub record OpensExactly (s metadata bytes room : List ℕ) (r : ReceivingKey) (w : Window) (ctr n : ℕ) : Type 0 where
     pub exactly : (opening cipher s metadata bytes room .number ≡ done) ↔ Encryption r ctr n metadata bytes
     pub yields : (e : Encryption r ctr n metadata bytes) → OpenedTo (e .plaintext) (opening cipher s metadata bytes room)
     pub beyond : (e : Encryption r ctr n metadata bytes) → opening cipher s metadata bytes room .room ≡ e .plaintext ++ drop (length (e .plaintext)) room
+    pub moves : Encryption r ctr n metadata bytes → opening cipher s metadata bytes room .store ≡ encodeAll (put (r .kid) (receiving r (moved w ctr)) (records s))
 
   -- ---- every list of calls
 
@@ -114,9 +133,10 @@ module _ (cipher : Cipher) where
     pub its-kid : add .kid ≡ kidOf x
     -- it was sealed under that Add's suite, and the key and salt derived from it: it is the RFC's frame
     pub sealed-under : x .frame ≡ frame cipher (add .suite) (keyFrom add) (saltFrom add) (kidOf x) (ctrOf x) (x .metadata) (x .plaintext)
-    -- every sound store that holds that KID, suite, key and salt for receiving opens it, given its metadata and "room for its plaintext"
-    pub opens : (s room : List ℕ) → Holds s (record { suite = add .suite; kid = kidOf x; salt = saltFrom add; key = keyFrom add }) → length (x .plaintext) ≤ length room
-        → OpenedTo (x .plaintext) (opening cipher s (x .metadata) (x .frame) room)
+    -- every sound store that holds that KID, suite, key and salt for receiving, with a window that has neither seen its counter nor
+    -- lies past it, opens it, given its metadata and "room for its plaintext"
+    pub opens : (s room : List ℕ) (h : Holds s (record { suite = add .suite; kid = kidOf x; salt = saltFrom add; key = keyFrom add })) → length (x .plaintext) ≤ length room
+        → seen (h .window) (ctrOf x) ≡ false → tooOld (h .window) (ctrOf x) ≡ false → OpenedTo (x .plaintext) (opening cipher s (x .metadata) (x .frame) room)
 
   -- Two sealed frames, each with the events before it.
   pub record Pair (x : Sealing) (before-x : List Event) (y : Sealing) (before-y : List Event) : Type 0 where
@@ -143,6 +163,19 @@ NeverAgain log = (later between earlier : List Event) (a b : Adding) → log ≡
 -- "None is barred": no Add for sending with the suite of 4-byte tags answered 0, so no frame was sealed under one.
 abbrev pub NoneBarred : List Event → Type 0
 NoneBarred log = (later earlier : List Event) (a : Adding) → log ≡ later ++ (added a ∷ earlier) → barred (a .role) (a .suite) ≡ false
+
+-- An Add of that KID stands among the events.
+pub record AddedIn (kid : ℕ) (log : List Event) : Type 0 where
+  pub add : Adding
+  pub after : List Event
+  pub before : List Event
+  pub is-there : log ≡ after ++ (added add ∷ before)
+  pub its-kid : add .kid ≡ kid
+
+-- "No frame is opened twice": between two Opens that answered 0 with one KID and counter stands an Add of that KID that answered 0.
+-- The events stand the newest first, so y came before x.
+abbrev pub OpenedOnce : List Event → Type 0
+OpenedOnce log = (later between earlier : List Event) (x y : Opening) → log ≡ later ++ (opened x ∷ (between ++ (opened y ∷ earlier))) → x .kid ≡ y .kid → x .ctr ≡ y .ctr → AddedIn (x .kid) between
 
 -- ---- neighbours in one store
 

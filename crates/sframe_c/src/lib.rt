@@ -10,6 +10,7 @@ ghost use Rattle.key_record.specs.declared.Role.the-variants.{Sending, Receivin
 ghost use Rattle.add_key.specs.Add.{add};
 ghost use Rattle.seal_frame.specs.Seal.{seal};
 ghost use Rattle.open_frame.specs.Open.{opening};
+ghost use Rattle.report_window.specs.Report.{report, reported};
 ghost use Rattle.ratchet.specs.Calls.{walk, kidNumber, kidGiven};
 use answers::DONE;
 use answers::HEADER_INVALID;
@@ -164,7 +165,7 @@ pub extern "C" fn sframe_seal_at(
 
 #[no_mangle]
 pub extern "C" fn sframe_open(
-    store: &[u8],
+    store: &mut [u8],
     frame: &[u8],
     metadata: &[u8],
     out: &mut [u8],
@@ -172,10 +173,21 @@ pub extern "C" fn sframe_open(
 ) -> u32
     ensures { λ r. ⌜ r ≡ opening sframe (now (store .entry)) (now (metadata .entry)) (now (frame .entry)) (now (out .entry)) .number ⌝ }
     ensures { λ r. ⌜ now (length .exit) ≡ opening sframe (now (store .entry)) (now (metadata .entry)) (now (frame .entry)) (now (out .entry)) .written ⌝ }
+    ensures { λ r. ⌜ now (store .exit) ≡ opening sframe (now (store .entry)) (now (metadata .entry)) (now (frame .entry)) (now (out .entry)) .store ⌝ }
     ensures { λ r. ⌜ now (out .exit) ≡ opening sframe (now (store .entry)) (now (metadata .entry)) (now (frame .entry)) (now (out .entry)) .room ⌝ }
 {
     let answer = open_frame::open(store, frame, metadata, out);
     *length = answer.length;
+    answer.number
+}
+
+#[no_mangle]
+pub extern "C" fn sframe_report(store: &[u8], kid: u64, count: &mut u64) -> u32
+    ensures { λ r. ⌜ r ≡ report (now (store .entry)) kid .number ⌝ }
+    ensures { λ r. ⌜ now (count .exit) ≡ reported (now (store .entry)) kid ⌝ }
+{
+    let answer = report_window::report(store, Kid(kid));
+    *count = answer.count;
     answer.number
 }
 

@@ -8,6 +8,7 @@ use lib.ListN.{length, replicate, length-replicate, replicate-append-replicate}
 use borrow.Author.Tests.{eq-eqb, not-false}
 use Rattle.octets.specs.Octets.{Octets}
 use Rattle.answers.specs.Answers.{storeInvalid, _if_, Outcome}
+use Rattle.window.specs.declared.Window.{Window}
 use Rattle.store.specs.Calls.{stored, make, removed, removeCauses, removeAt, remove}
 use Rattle.key_record.specs.inner.Rows.{kept}
 use Rattle.store.specs.Cipher.{Cipher}
@@ -81,7 +82,7 @@ make-stored s e = record { count = length s / recordSize; is-stored = by (settle
 -- ---- Remove
 
 pub data RemoveStep (s : List ℕ) (rs : List KeyRecord) (kid : ℕ) (o : Outcome) : Type 0 where
-  freed : (r : ReceivingKey) → o .number ≡ 0 → get kid rs ≡ receiving r → Change kid empty rs (clear kid rs) → Stored (o .store) (clear kid rs) → RemoveStep s rs kid o
+  freed : (r : ReceivingKey) (w : Window) → o .number ≡ 0 → get kid rs ≡ receiving r w → Change kid empty rs (clear kid rs) → Stored (o .store) (clear kid rs) → RemoveStep s rs kid o
   closed : (r : SendingKey) → o .number ≡ 0 → get kid rs ≡ sending r → Change kid (kept (sending r)) rs (put kid (kept (sending r)) rs) → Stored (o .store) (put kid (kept (sending r)) rs) → RemoveStep s rs kid o
   refused : (o .number ≡ 0 → ⊥) → o .store ≡ s → RemoveStep s rs kid o
 
@@ -106,9 +107,9 @@ module _ (s : List ℕ) (rs : List KeyRecord) (t : Stored s rs) where
       by o held g (refusal d r) = refused (λ e. d (sym (r .number-is) ∙ e)) (r .store-stays)
       by o empty g (success p q) = absurd (false≢true (sym (p .1 .0)))
       by o (retired r) g (success p q) = absurd (false≢true (sym (p .1 .1 .0)))
-      by o (receiving r) g (success p q) =
+      by o (receiving r w) g (success p q) =
           let c = clear-change kid rs (t .table) in
-          freed r (ap (λ (x : Outcome). x .number) q) g c (record { table = c .table; bytes-are = sym (ap (λ (x : Outcome). x .store) q) })
+          freed r w (ap (λ (x : Outcome). x .number) q) g c (record { table = c .table; bytes-are = sym (ap (λ (x : Outcome). x .store) q) })
       by o (sending r) g (success p q) =
           let f : Fit (sending r) = rw g at (get-fit kid rs (t .table .fit)) in
           let c = put-change kid rs (t .table) (kept (sending r)) (f .0) (kept-holds kid r (held-there r g)) (rw g) in

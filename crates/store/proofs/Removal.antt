@@ -66,7 +66,7 @@ module _ (s : List ℕ) (kid : ℕ) (is-sound : sound s ≡ true) where
         by : (h : KeyRecord) → kindOf h ≡ Empty → holds kid h ≡ true → ⊥
         by empty e t = false≢true t
         by (sending x) e t = let z : _≡_ {A = ℕ} 0 1 = cc in omega arith
-        by (receiving x) e t = let z : _≡_ {A = ℕ} 0 1 = cc in omega arith
+        by (receiving x w) e t = let z : _≡_ {A = ℕ} 0 1 = cc in omega arith
         by (retired x) e t = let z : _≡_ {A = ℕ} 0 1 = cc in omega arith
 
     pub remove-retired : k ≡ Retired → (roleRefused ≡ remove s kid .number) × (s ≡ remove s kid .store)
@@ -76,7 +76,7 @@ module _ (s : List ℕ) (kid : ℕ) (is-sound : sound s ≡ true) where
         by : (h : KeyRecord) → get kid (records s) ≡ h → kindOf h ≡ Retired → (roleRefused ≡ remove s kid .number) × (s ≡ remove s kid .store)
         by empty g e = let z : _≡_ {A = ℕ} 0 1 = cc in absurd (omega arith)
         by (sending x) g e = let z : _≡_ {A = ℕ} 0 1 = cc in absurd (omega arith)
-        by (receiving x) g e = let z : _≡_ {A = ℕ} 0 1 = cc in absurd (omega arith)
+        by (receiving x w) g e = let z : _≡_ {A = ℕ} 0 1 = cc in absurd (omega arith)
         by (retired x) g e = let y = outcome-of (retired x) g in (sym (ap (λ (x : Outcome). x .number) y), sym (ap (λ (x : Outcome). x .store) y))
 
     pub remove-receiving : (x : List ℕ) → k ≡ Receiver → x ≡ encodeAll (set (records s) i empty) → (done ≡ remove s kid .number) × (x ≡ remove s kid .store)
@@ -87,8 +87,8 @@ module _ (s : List ℕ) (kid : ℕ) (is-sound : sound s ≡ true) where
         by empty g e = let z : _≡_ {A = ℕ} 0 1 = cc in absurd (omega arith)
         by (sending y) g e = let z : _≡_ {A = ℕ} 0 1 = cc in absurd (omega arith)
         by (retired y) g e = let z : _≡_ {A = ℕ} 0 1 = cc in absurd (omega arith)
-        by (receiving y) g e =
-            let v = outcome-of (receiving y) g in
+        by (receiving y w) g e =
+            let v = outcome-of (receiving y w) g in
             (sym (ap (λ (x : Outcome). x .number) v), a ∙ ap encodeAll (sym (clear-at kid (records s) i apart-kids (found .2))) ∙ sym (ap (λ (x : Outcome). x .store) v))
 
     pub sender-sends : k ≡ Sender → isSending (getD (records s) i empty) ≡ true
@@ -100,7 +100,7 @@ module _ (s : List ℕ) (kid : ℕ) (is-sound : sound s ≡ true) where
       where
         by : (h : KeyRecord) → get kid (records s) ≡ h → kindOf h ≡ Sender → x ≡ encodeAll (set (records s) i (kept h)) → (done ≡ remove s kid .number) × (x ≡ remove s kid .store)
         by empty g e b = let z : _≡_ {A = ℕ} 0 1 = cc in absurd (omega arith)
-        by (receiving y) g e b = let z : _≡_ {A = ℕ} 0 1 = cc in absurd (omega arith)
+        by (receiving y w) g e b = let z : _≡_ {A = ℕ} 0 1 = cc in absurd (omega arith)
         by (retired y) g e b = let z : _≡_ {A = ℕ} 0 1 = cc in absurd (omega arith)
         by (sending y) g e b =
             let v = outcome-of (sending y) g in (

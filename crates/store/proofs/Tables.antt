@@ -23,13 +23,13 @@ pub view : (r : KeyRecord) → View r
 unfolding holds
 view empty = vacant refl
 view (sending r) = held (r .kid) (eq-eqb (r .kid) (r .kid) refl)
-view (receiving r) = held (r .kid) (eq-eqb (r .kid) (r .kid) refl)
+view (receiving r w) = held (r .kid) (eq-eqb (r .kid) (r .kid) refl)
 view (retired r) = held (r .kid) (eq-eqb (r .kid) (r .kid) refl)
 
 pub empty-is : (r : KeyRecord) → isEmpty r ≡ true → r ≡ empty
 empty-is empty e = refl
 empty-is (sending r) e = absurd (false≢true e)
-empty-is (receiving r) e = absurd (false≢true e)
+empty-is (receiving r w) e = absurd (false≢true e)
 empty-is (retired r) e = absurd (false≢true e)
 
 -- a record holds one Key ID
@@ -37,7 +37,7 @@ pub holds-other : (kid k : ℕ) (r : KeyRecord) → holds kid r ≡ true → (k 
 unfolding holds
 holds-other kid k empty h d = refl
 holds-other kid k (sending r) h d = ne-eqb (r .kid) k (λ e. d (sym e ∙ eqb-true (r .kid) kid h))
-holds-other kid k (receiving r) h d = ne-eqb (r .kid) k (λ e. d (sym e ∙ eqb-true (r .kid) kid h))
+holds-other kid k (receiving r w) h d = ne-eqb (r .kid) k (λ e. d (sym e ∙ eqb-true (r .kid) kid h))
 holds-other kid k (retired r) h d = ne-eqb (r .kid) k (λ e. d (sym e ∙ eqb-true (r .kid) kid h))
 
 holds-empty : (kid : ℕ) → holds kid empty ≡ false
@@ -105,7 +105,7 @@ pub alone-get : (kid : ℕ) (r : KeyRecord) (rs : List KeyRecord) → holds kid 
 unfolding holds alone
 alone-get kid empty rs h = absurd (false≢true h)
 alone-get kid (sending r) rs h = ap (λ (k : ℕ). isEmpty (get k rs)) (eqb-true (r .kid) kid h)
-alone-get kid (receiving r) rs h = ap (λ (k : ℕ). isEmpty (get k rs)) (eqb-true (r .kid) kid h)
+alone-get kid (receiving r w) rs h = ap (λ (k : ℕ). isEmpty (get k rs)) (eqb-true (r .kid) kid h)
 alone-get kid (retired r) rs h = ap (λ (k : ℕ). isEmpty (get k rs)) (eqb-true (r .kid) kid h)
 
 alone-empty : (rs : List KeyRecord) → alone empty rs ≡ true

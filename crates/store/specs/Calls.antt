@@ -35,7 +35,7 @@ removeCauses valid held = (storeInvalid if not valid) ∷ (kidMissing if isEmpty
 unfoldable pub removed : (held : KeyRecord) (kid : ℕ) (rs : List KeyRecord) → List KeyRecord
 removed empty kid rs = rs
 removed (sending r) kid rs = put kid (retired (record { suite = r .suite; kid = r .kid; counter = r .counter })) rs
-removed (receiving r) kid rs = clear kid rs
+removed (receiving r w) kid rs = clear kid rs
 removed (retired r) kid rs = rs
 
 unfoldable pub removeAt : (valid : Bool) (rs : List KeyRecord) (s : List ℕ) (kid : ℕ) → Outcome

@@ -41,7 +41,7 @@ full (r ∷ rs) = pick (isEmpty r) false (full rs)
 unfoldable pub alone : KeyRecord → List KeyRecord → Bool
 alone empty rs = true
 alone (sending r) rs = isEmpty (get (r .kid) rs)
-alone (receiving r) rs = isEmpty (get (r .kid) rs)
+alone (receiving r w) rs = isEmpty (get (r .kid) rs)
 alone (retired r) rs = isEmpty (get (r .kid) rs)
 
 -- No two non-empty records share a KID.

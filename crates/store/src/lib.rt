@@ -3,6 +3,7 @@ use answers::DONE;
 use answers::KID_MISSING;
 use answers::ROLE_REFUSED;
 use answers::STORE_INVALID;
+use header::Ctr;
 use header::Kid;
 use key_record::Kind;
 use key_record::RECORD_SIZE;
@@ -11,16 +12,17 @@ use key_record::judging;
 use key_record::row;
 use suites::sizes::Suite;
 ghost use mathlib.Core.Path.{_≡_};
-ghost use mathlib.Core.Bool.{true};
+ghost use mathlib.Core.Bool.{true, false};
 ghost use Prim.Native.Nat.{_<_, _≤_};
 ghost use lib.ListN.{length, getD, set};
 ghost use Rattle.answers.specs.Limits.{baseKeyMost};
 ghost use Rattle.store.specs.Calls.{make, remove};
 ghost use Rattle.key_record.specs.Layout.{recordSize, decode};
-ghost use Rattle.key_record.specs.Record.{ceiling, empty, isEmpty, isSending, counterOf, advanced};
+ghost use Rattle.key_record.specs.Record.{ceiling, empty, isEmpty, isSending, isReceiving, counterOf, windowOf, advanced, noted};
 ghost use Rattle.store.specs.Store.{lengthRight, encodeAll, records, sound};
 ghost use Rattle.store.specs.Table.{alone, apart, FoundIn, FreeIn};
 ghost use Rattle.key_record.specs.inner.Rows.{fresh, kept};
+ghost use Rattle.window.specs.Window.{seen, tooOld};
 ghost use Rattle.store.specs.inner.Places.{Whole, rowsObey, Within, RowOf};
 
 pub const MAX_RECORDS: usize = 64;
@@ -163,6 +165,16 @@ pub fn advance_at(store: &mut [u8], i: usize)
     let at = i * RECORD_SIZE;
     let end = at + RECORD_SIZE;
     row::advance(&mut store[at..end]);
+}
+
+// Notes in record i, which is a receiving one, that a frame with that counter was opened, which its window does not tell yet.
+pub fn note_at(store: &mut [u8], i: usize, ctr: Ctr)
+    requires { ⌜ (Within (now store) i) × (isReceiving (getD (records (now store)) i empty) ≡ true) × (seen (windowOf (getD (records (now store)) i empty)) (ctr .0) ≡ false) × (tooOld (windowOf (getD (records (now store)) i empty)) (ctr .0) ≡ false) ⌝ }
+    ensures { λ _. ⌜ now (store .exit) ≡ encodeAll (set (records (now (store .entry))) i (noted (ctr .0) (getD (records (now (store .entry))) i empty))) ⌝ }
+{
+    let at = i * RECORD_SIZE;
+    let end = at + RECORD_SIZE;
+    row::note(&mut store[at..end], ctr);
 }
 
 // Retires record i, which is a sending one.

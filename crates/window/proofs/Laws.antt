@@ -200,6 +200,11 @@ module _ (w : Window) (ctr k : ℕ) where
       in
       rw (le-leb k ctr (omega arith), lt-ltb (ctr - k) span near-by, le-leb k (w .highest) le, lt-ltb (w .highest - k) span (omega arith)) (ap (λ (x : ℕ). eqb x 1) b)
 
+-- what is too old is not told as opened
+pub old-unseen : (w : Window) (k : ℕ) → tooOld w k ≡ true → seen w k ≡ false
+unfolding seen tooOld
+old-unseen w k e = let h = leb-true (k + span) (w .highest) e in rw (le-leb k (w .highest) (omega arith), le-ltb (w .highest - k) span (omega arith))
+
 -- ---- a window that moves
 
 module _ (w : Window) (ctr : ℕ) where
@@ -221,6 +226,9 @@ module _ (w : Window) (ctr : ℕ) where
       let p : 2 ^ suc ctr ≡ 2 ^ ctr * 2 = pow-suc 2 ctr in
       let k′ : ctr + 1 ≡ suc ctr = omega arith in
       rw k′ (omega (arith, rw k at below, mod-le x (2 ^ span), up-even (w .mask) d (omega arith), p))
+
+  pub newer-room : w .highest < ctr → w .mask * 2 ^ (ctr - w .highest) % 2 ^ span + 1 < 2 ^ span
+  newer-room h = omega (arith, mod-lt (w .mask * 2 ^ (ctr - w .highest)) {m = 2 ^ span} (omega arith), up-even (w .mask) (ctr - w .highest) (omega arith))
 
   module _ (f : fits w ≡ true) (new : seen w ctr ≡ false) (young : tooOld w ctr ≡ false) where
     order : InOrder w
@@ -292,6 +300,22 @@ module _ (w : Window) (ctr : ℕ) where
             other-bit (yes′ q) a b = set-below (w .mask) (w .highest - ctr) (unset a) (w .highest - k) (ltb-true (w .highest - k) (w .highest - ctr) q)
             other-bit (no′ q) a b = set-above (w .mask) (w .highest - ctr) (unset a) (w .highest - k) (omega (arith, ltb-false (w .highest - k) (w .highest - ctr) q, d))
 
+    pub older-room : ctr ≤ w .highest → w .mask < 2 ^ span → w .mask + 2 ^ (w .highest - ctr) < 2 ^ span
+    older-room h l =
+        let i = w .highest - ctr in
+        let j = span - suc i in
+        let n = near h in
+        let p : 2 ^ (suc j + i) ≡ 2 ^ span = let k : suc j + i ≡ span = omega arith in ap (λ (x : ℕ). 2 ^ x) k in
+        omega (arith, set-lt (w .mask) i j (omega (arith, p)) (unset h), p)
+
+    -- both fields stay within 64 bits
+    pub moved-below : ctr < 2 ^ span → w .highest < 2 ^ span → w .mask < 2 ^ span → (moved w ctr .highest < 2 ^ span) × (moved w ctr .mask < 2 ^ span)
+    moved-below c a b = by (two (ltb (w .highest) ctr))
+      where
+        by : Two (ltb (w .highest) ctr) → (moved w ctr .highest < 2 ^ span) × (moved w ctr .mask < 2 ^ span)
+        by (yes′ t) = let h = ltb-true (w .highest) ctr t in rw (moved-newer h) (c, newer-room h)
+        by (no′ t) = let h = ltb-false (w .highest) ctr t in rw (moved-older h) (a, older-room h b)
+
   -- what is too old stays so
   pub moved-old : (k : ℕ) → tooOld w k ≡ true → tooOld (moved w ctr) k ≡ true
   unfolding tooOld
@@ -302,6 +326,10 @@ module _ (w : Window) (ctr : ℕ) where
           let h = ltb-true (w .highest) ctr t in
           ap (λ (x : Window). leb (k + span) (x .highest)) (moved-newer h) ∙ le-leb (k + span) ctr (omega (arith, leb-true (k + span) (w .highest) e))
       by (no′ t) = ap (λ (x : Window). leb (k + span) (x .highest)) (moved-older (ltb-false (w .highest) ctr t)) ∙ e
+
+pub fresh-fits : fits fresh ≡ true
+unfolding fits
+fresh-fits = refl
 
 -- a window that has opened none tells of none
 pub fresh-opens : (k : ℕ) → (seen fresh k ≡ false) × (tooOld fresh k ≡ false)

@@ -1,17 +1,16 @@
 -- The steps of the functions, over plain variables. Assumes nothing.
-use mathlib.Core.Path.{_≡_, refl, sym, _∙_, ap}
-use mathlib.Core.Bool.{Bool, true, false}
-use Prim.Native.Nat.{ℕ, suc, _+_, _*_, _-_, _/_, _%_, _^_, _<_, _≤_}
+use mathlib.Core.Path.{_≡_, sym, _∙_, ap}
+use mathlib.Core.Bool.{true, false}
+use Prim.Native.Nat.{ℕ, _+_, _*_, _-_, _/_, _%_, _^_, _<_, _≤_}
 use native.Mathlib.Omega.{arith}
 use native.Mathlib.Nat.{mod-lt, mod-eq-of-lt, one-mul}
 use lib.Dec.{leb, ltb, eqb}
 use lib.Pow.{pow-lt, pow-mono, shr-lt, split}
 use borrow.Author.Tests.{lt-ltb, le-ltb, le-leb, lt-leb, eq-eqb, ne-eqb, ltb-true, ltb-false, leb-true, leb-false}
-use Rattle.octets.specs.Octets.{pick, both}
 use Rattle.answers.proofs.Basics.{Two, yes′, no′, two}
 use Rattle.window.specs.Window.{span, bit, fits, seen, tooOld, moved}
 use Rattle.window.specs.declared.Window.{Window}
-use Rattle.window.proofs.Laws.{first-bit, power-some, up-even, set-lt, near, unset, moved-newer, moved-older}
+use Rattle.window.proofs.Laws.{first-bit, power-some, near, newer-room, older-room, moved-newer, moved-older}
 
 pub one-up : (i : ℕ) → i < span → 1 * 2 ^ i % 2 ^ span ≡ 2 ^ i
 one-up i h = mod-eq-of-lt (pow-below i h) ∙ one-mul (2 ^ i)
@@ -94,14 +93,8 @@ module _ (w : Window) (ctr : ℕ) where
   opened-older h n m e = ap (λ (x : ℕ). record { highest = w .highest; mask = w .mask + x }) (e ∙ one-up (w .highest - ctr) n) ∙ sym (moved-older w ctr h)
 
   -- no sum wraps
-  pub newer-room : w .highest < ctr → (m : ℕ) → m ≡ w .mask * 2 ^ (ctr - w .highest) % 2 ^ span → m + 1 < 2 ^ span
-  newer-room h m e = let l = mod-lt (w .mask * 2 ^ (ctr - w .highest)) {m = 2 ^ span} (omega arith) in omega (arith, up-even (w .mask) (ctr - w .highest) (omega arith))
+  pub newer-adds : w .highest < ctr → (m : ℕ) → m ≡ w .mask * 2 ^ (ctr - w .highest) % 2 ^ span → m + 1 < 2 ^ span
+  newer-adds h m e = rw e (newer-room w ctr h)
 
-  pub older-room : fits w ≡ true → seen w ctr ≡ false → tooOld w ctr ≡ false → ctr ≤ w .highest → w .mask < 2 ^ span → (m : ℕ) → m ≡ 1 * 2 ^ (w .highest - ctr) % 2 ^ span → w .mask + m < 2 ^ span
-  older-room f new young h l m e =
-      let i = w .highest - ctr in
-      let n = near w ctr f new young h in
-      let j = span - suc i in
-      let p : 2 ^ (suc j + i) ≡ 2 ^ span = let k : suc j + i ≡ span = omega arith in ap (λ (x : ℕ). 2 ^ x) k in
-      let b = set-lt (w .mask) i j (omega (arith, p)) (unset w ctr f new young h) in
-      omega (arith, b, p, e ∙ one-up i n)
+  pub older-adds : fits w ≡ true → seen w ctr ≡ false → tooOld w ctr ≡ false → ctr ≤ w .highest → w .mask < 2 ^ span → (m : ℕ) → m ≡ 1 * 2 ^ (w .highest - ctr) % 2 ^ span → w .mask + m < 2 ^ span
+  older-adds f new young h l m e = rw (e ∙ one-up (w .highest - ctr) (near w ctr f new young h)) (older-room w ctr f new young h l)

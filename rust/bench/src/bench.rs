@@ -1,5 +1,7 @@
 //! Times of the calls that the sealing layer offers.
 
+#[cfg(has_earlier)]
+mod earlier;
 mod frames;
 mod headers;
 mod judging;
@@ -36,17 +38,19 @@ fn main() -> ExitCode {
 fn run(folder: &Path) -> io::Result<()> {
     fs::create_dir_all(folder)?;
     print_method();
-    progress("1 of 4: headers");
+    progress("1 of 5: headers");
     headers::run();
-    progress("2 of 4: frames");
+    progress("2 of 5: frames");
     frames::run(&folder.join("frames.csv"))?;
-    progress("3 of 4: judging the store");
+    progress("3 of 5: judging the store");
     judging::run(&folder.join("judging.csv"))?;
-    progress("4 of 4: other libraries");
+    progress("4 of 5: an earlier library");
+    #[cfg(has_earlier)]
+    earlier::run(&folder.join("earlier.csv"))?;
+    #[cfg(not(has_earlier))]
+    println!("\nno earlier library: SFRAME_EARLIER_DIR names no folder of one");
+    progress("5 of 5: other libraries");
     others::run(&folder.join("libraries.csv"))?;
-    println!(
-        "\nframes.csv, judging.csv and libraries.csv are in {}",
-        folder.display()
-    );
+    println!("\nthe tables are in {} as CSV files", folder.display());
     Ok(())
 }

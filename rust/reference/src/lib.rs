@@ -22,3 +22,4 @@ pub mod refusal;
 pub mod sha2;
 pub mod store;
 pub mod suites;
+pub mod window;

@@ -1,20 +1,27 @@
-//! One record of the store: 80 bytes.
+//! One record of the store: 96 bytes.
 //!
 //! | bytes | content |
 //! |---|---|
 //! | 0 | 0 empty, 1 sending, 2 receiving, 3 retired |
 //! | 1 | suite |
 //! | 2 | sending or retired: 1 when the last counter has been used, else 0; receiving: 0 |
-//! | 3 | zero |
+//! | 3 | 1 |
 //! | 4-11 | KID, big-endian |
 //! | 12-19 | next counter, big-endian; stays at 2^64 - 1 once that is used |
 //! | 20-31 | salt |
 //! | 32-79 | key, zero past Nk |
+//! | 80-87 | receiving: the highest counter opened, big-endian; else 0 |
+//! | 88-95 | receiving: the mask of the counters opened, big-endian; else 0 |
 
 use crate::suites::{Suite, NN};
+use crate::window::Window;
 
 /// The length of a record.
-pub const RECORD: usize = 80;
+pub const RECORD: usize = 96;
+
+/// What byte 3 of a non-empty record holds. Records of 80 bytes, which had no
+/// window, held 0 there.
+const LAYOUT: u8 = 1;
 
 /// The longest key of a suite.
 const MAX_NK: usize = 48;
@@ -50,6 +57,8 @@ pub struct Record {
     pub salt: [u8; NN],
     /// The key, zero past Nk.
     key: [u8; MAX_NK],
+    /// Which counters it has opened; none unless it is receiving.
+    pub window: Window,
 }
 
 /// The bytes obey no rule of a record.
@@ -57,8 +66,8 @@ pub struct Record {
 pub struct Unsound;
 
 impl Record {
-    /// A record that has sealed nothing, with the key and the salt that the
-    /// suite derives.
+    /// A record that has sealed and opened nothing, with the key and the salt
+    /// that the suite derives.
     pub fn new(state: State, suite: Suite, kid: u64, base_key: &[u8]) -> Self {
         let (derived, salt) = suite.derive_key_salt(kid, base_key);
         let mut key = [0; MAX_NK];
@@ -71,6 +80,7 @@ impl Record {
             spent: false,
             salt,
             key,
+            window: Window::default(),
         }
     }
 
@@ -92,6 +102,14 @@ impl Record {
                 spent: true,
                 ..self
             },
+        }
+    }
+
+    /// The same record once it has opened a frame with this counter.
+    pub fn opening(self, ctr: u64) -> Self {
+        Record {
+            window: self.window.opening(ctr),
+            ..self
         }
     }
 
@@ -121,8 +139,12 @@ impl Record {
             },
             salt: part(bytes, 20),
             key: part(bytes, 32),
+            window: Window {
+                highest: u64::from_be_bytes(part(bytes, 80)),
+                mask: u64::from_be_bytes(part(bytes, 88)),
+            },
         };
-        let sound = bytes[3] == 0 && record.is_sound();
+        let sound = bytes[3] == LAYOUT && record.is_sound();
         sound.then_some(Some(record)).ok_or(Unsound)
     }
 
@@ -135,7 +157,11 @@ impl Record {
             State::Sending | State::Receiving => is_zero(&self.key[self.suite.nk()..]),
             State::Retired => is_zero(&self.key) && is_zero(&self.salt),
         };
-        counter_allowed && key_allowed
+        let window_allowed = match self.state {
+            State::Receiving => self.window.is_sound(),
+            State::Sending | State::Retired => self.window == Window::default(),
+        };
+        counter_allowed && key_allowed && window_allowed
     }
 
     /// The bytes of the record.
@@ -144,10 +170,13 @@ impl Record {
         bytes[0] = self.state as u8;
         bytes[1] = self.suite as u8;
         bytes[2] = self.spent.into();
+        bytes[3] = LAYOUT;
         bytes[4..12].copy_from_slice(&self.kid.to_be_bytes());
         bytes[12..20].copy_from_slice(&self.counter.to_be_bytes());
         bytes[20..32].copy_from_slice(&self.salt);
-        bytes[32..].copy_from_slice(&self.key);
+        bytes[32..80].copy_from_slice(&self.key);
+        bytes[80..88].copy_from_slice(&self.window.highest.to_be_bytes());
+        bytes[88..].copy_from_slice(&self.window.mask.to_be_bytes());
         bytes
     }
 }

@@ -29,6 +29,10 @@ pub enum Refusal {
     RoomShort = 12,
     /// The tag differs.
     TagDiffers = 13,
+    /// The counter's bit in the mask is set: a frame with it was opened.
+    AlreadyOpened = 14,
+    /// The counter lies 64 or more below the highest that was opened.
+    TooOld = 15,
     /// Suite 3, whose tags have four bytes, is not for sending.
     SendingBarred = 17,
     /// The bits of the step are not 1 to 16, or the KID is past 64 bits.

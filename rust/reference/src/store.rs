@@ -142,11 +142,12 @@ pub fn seal_at(
 }
 
 /// Opens `frame` into the front of `room`; nothing is written before the tag
-/// is verified. Refusals: 1, 10, 6, 7, 11, 9, 12, 13.
-pub fn open(store: &[u8], metadata: &[u8], frame: &[u8], room: &mut [u8]) -> Answer {
+/// is verified. Only an opened frame moves the record's window. Refusals: 1, 10,
+/// 6, 7, 11, 9, 12, 14, 15, 13.
+pub fn open(store: &mut [u8], metadata: &[u8], frame: &[u8], room: &mut [u8]) -> Answer {
     let records = read_store(store)?;
     let (kid, ctr, header_length) = read_header(frame).ok_or(Refusal::BadHeader)?;
-    let (_, record) = look_up(&records, kid)?;
+    let (place, record) = look_up(&records, kid)?;
     if record.state != State::Receiving {
         return Err(Refusal::WrongRole);
     }
@@ -158,6 +159,12 @@ pub fn open(store: &[u8], metadata: &[u8], frame: &[u8], room: &mut [u8]) -> Ans
     let (ciphertext, tag) = rest.split_at(length);
     check_sizes(length, metadata)?;
     let plaintext = room.get_mut(..length).ok_or(Refusal::RoomShort)?;
+    if record.window.has_opened(ctr) {
+        return Err(Refusal::AlreadyOpened);
+    }
+    if record.window.is_past(ctr) {
+        return Err(Refusal::TooOld);
+    }
 
     let aad = [header, metadata].concat();
     let aead = Aead::new(record.suite, record.key());
@@ -167,7 +174,21 @@ pub fn open(store: &[u8], metadata: &[u8], frame: &[u8], room: &mut [u8]) -> Ans
     }
     plaintext.copy_from_slice(ciphertext);
     aead.apply_key_stream(&nonce, plaintext);
+
+    let opened = record.clone().opening(ctr);
+    write_record(store, place, Some(opened));
     Ok(length)
+}
+
+/// How many of the last 64 counters of a receiving key were opened. Refusals: 1,
+/// 6, 7.
+pub fn report(store: &[u8], kid: u64) -> Result<u64, Refusal> {
+    let records = read_store(store)?;
+    let (_, record) = look_up(&records, kid)?;
+    if record.state != State::Receiving {
+        return Err(Refusal::WrongRole);
+    }
+    Ok(record.window.mask.count_ones().into())
 }
 
 fn length_allowed(store: &[u8]) -> bool {

@@ -65,11 +65,24 @@ fn seal_to_vec(store: &mut [u8], kid: u64, metadata: &[u8], plaintext: &[u8]) ->
     room
 }
 
+/// The frame of KID 1, with this counter.
+fn frame_of(suite: Suite, ctr: u64) -> Vec<u8> {
+    let mut store = sender(suite, 1, &BASE_KEY);
+    set_counter(&mut store, ctr);
+    seal_to_vec(&mut store, 1, b"", b"picture")
+}
+
+/// Opens that frame; the store receives KID 1 in its first record.
+fn open_counter(store: &mut [u8], ctr: u64) -> Answer {
+    let suite = Suite::from_number(store[1].into()).unwrap();
+    open(store, b"", &frame_of(suite, ctr), &mut [0; 7])
+}
+
 #[test]
 fn make_takes_1_to_64_records() {
-    for length in 0..=6_000 {
+    for length in 0..=7_000 {
         let mut store = vec![0xa5; length];
-        let allowed = (80..=5_120).contains(&length) && length % 80 == 0;
+        let allowed = (96..=6_144).contains(&length) && length % 96 == 0;
         assert_eq!(make(&mut store).is_ok(), allowed);
         let left = if allowed { 0 } else { 0xa5 };
         assert!(store.iter().all(|&byte| byte == left));
@@ -99,7 +112,7 @@ fn published_frames() {
         .unwrap();
         let mut room = vec![0; plaintext.len()];
         assert_eq!(
-            open(&receiver, &metadata, &frame, &mut room),
+            open(&mut receiver, &metadata, &frame, &mut room),
             Ok(room.len())
         );
         assert_eq!(room, plaintext);
@@ -111,18 +124,26 @@ fn records_as_laid_out() {
     let store = filled(Suite::Aes128GcmSha256_128);
     let (key, salt) = Suite::Aes128GcmSha256_128.derive_key_salt(2, &BASE_KEY);
     let receiving = &store[RECORD..2 * RECORD];
-    assert_eq!(receiving[..4], [2, 4, 0, 0]);
+    assert_eq!(receiving[..4], [2, 4, 0, 1]);
     assert_eq!(
         receiving[4..20],
         [0, 0, 0, 0, 0, 0, 0, 2, 0, 0, 0, 0, 0, 0, 0, 0]
     );
     assert_eq!(receiving[20..32], salt);
     assert_eq!(receiving[32..48], key);
-    assert_eq!(receiving[48..], [0; 32]);
+    assert_eq!(receiving[48..], [0; 48]);
 
     let retired = &store[2 * RECORD..];
-    assert_eq!(retired[..12], [3, 4, 0, 0, 0, 0, 0, 0, 0, 0, 0, 3]);
-    assert_eq!(retired[12..], [0; 68]);
+    assert_eq!(retired[..12], [3, 4, 0, 1, 0, 0, 0, 0, 0, 0, 0, 3]);
+    assert_eq!(retired[12..], [0; 84]);
+
+    // Counters 5, 300 and 299 opened; 5 lies too far below the others.
+    let mut receiver = receiver(Suite::Aes128GcmSha256_128);
+    for ctr in [5, 300, 299] {
+        assert_eq!(open_counter(&mut receiver, ctr), Ok(7));
+    }
+    assert_eq!(receiver[80..88], [0, 0, 0, 0, 0, 0, 1, 44]);
+    assert_eq!(receiver[88..], [0, 0, 0, 0, 0, 0, 0, 3]);
 }
 
 #[test]
@@ -137,8 +158,12 @@ fn every_unsound_record_is_refused() {
     let (first, second, third) = (0, RECORD, 2 * RECORD);
     assert!(unsound(first, &[0]) && unsound(first, &[4]) && unsound(first, &[0x81]));
     assert!(unsound(first + 1, &[0]) && unsound(first + 1, &[6]) && unsound(first + 1, &[0x84]));
-    assert!(unsound(first + 2, &[1]) && unsound(first + 3, &[1]));
-    assert!(unsound(second + 2, &[1]) && unsound(third + 2, &[1]));
+    for record in [first, second, third] {
+        assert!(unsound(record + 2, &[1]));
+        for layout in (0..=u8::MAX).filter(|&layout| layout != 1) {
+            assert!(unsound(record + 3, &[layout]));
+        }
+    }
     assert!(unsound(second + 4, &[0, 0, 0, 0, 0, 0, 0, 1]));
     assert!(unsound(third + 4, &[0, 0, 0, 0, 0, 0, 0, 1]));
     for counted in [1, 1 << 40, MAX_COUNTER - 1, MAX_COUNTER] {
@@ -165,6 +190,28 @@ fn every_unsound_record_is_refused() {
     for at in 20..80 {
         assert!(unsound(third + at, &[1]));
     }
+    // Highest counter and mask: none unless receiving, and there as the rule says.
+    for at in 80..96 {
+        assert!(unsound(first + at, &[1]) && unsound(third + at, &[1]));
+    }
+    let window = |highest: u64, mask: u64| [highest.to_be_bytes(), mask.to_be_bytes()].concat();
+    for (highest, mask) in [
+        (0, 1),
+        (2, 0b111),
+        (2, 0b101),
+        (63, u64::MAX),
+        (u64::MAX, 1),
+    ] {
+        assert!(!unsound(second + 80, &window(highest, mask)));
+        assert!(unsound(first + 80, &window(highest, mask)));
+        assert!(unsound(third + 80, &window(highest, mask)));
+    }
+    for (highest, mask) in [(1, 0), (u64::MAX, 0), (2, 0b1001), (0, 3), (62, u64::MAX)] {
+        assert!(unsound(second + 80, &window(highest, mask)));
+    }
+    for mask in [0b10, 0b110, u64::MAX - 1] {
+        assert!(unsound(second + 80, &window(100, mask)));
+    }
     // Any value is allowed where a salt or a key stands.
     assert!(!unsound(first + 20, &[0; 28]) && !unsound(second + 20, &[255; 28]));
 
@@ -181,6 +228,10 @@ fn records_decode_to_what_was_encoded() {
         for state in [State::Sending, State::Receiving] {
             let record = Record::new(state, suite, u64::MAX, &BASE_KEY);
             assert_eq!(Record::decode(&record.encode()), Ok(Some(record.clone())));
+            if state == State::Receiving {
+                let opened = record.clone().opening(1 << 40).opening((1 << 40) - 63);
+                assert_eq!(Record::decode(&opened.encode()), Ok(Some(opened)));
+            }
             let retired = record.retired();
             assert_eq!(Record::decode(&retired.encode()), Ok(Some(retired)));
         }
@@ -379,7 +430,7 @@ fn the_last_counter_seals_and_then_no_more() {
             |s, room| seal(s, 1, b"", b"", room),
             64,
         );
-        assert_eq!(open(&receiver(suite), b"", &frame, &mut [0; 4]), Ok(4));
+        assert_eq!(open(&mut receiver(suite), b"", &frame, &mut [0; 4]), Ok(4));
     }
 }
 
@@ -391,7 +442,7 @@ fn the_longest_frame_seals_and_opens() {
     for suite in SUITES {
         let frame = seal_to_vec(&mut filled(suite), 1, &metadata, &plaintext);
         let mut room = vec![0x5a; MAX_PLAINTEXT + 1];
-        let answer = open(&receiver(suite), &metadata, &frame, &mut room);
+        let answer = open(&mut receiver(suite), &metadata, &frame, &mut room);
         assert_eq!(answer, Ok(MAX_PLAINTEXT));
         assert_eq!(room[..MAX_PLAINTEXT], plaintext);
         assert_eq!(room[MAX_PLAINTEXT], 0x5a);
@@ -425,6 +476,57 @@ fn open_refuses_in_order() {
     refused(&receiver, RoomShort, call(longest, 0), MAX_PLAINTEXT - 1);
     refused(&receiver, RoomShort, call(frame.clone(), 1_024), 8);
     refused(&receiver, TagDiffers, call(frame.clone(), 1_024), 9);
+
+    // The window comes behind the room and before the tag.
+    for (highest, refusal) in [(0, AlreadyOpened), (64, TooOld)] {
+        let mut store = receiver.clone();
+        assert_eq!(open_counter(&mut store, highest), Ok(7));
+        refused(&store, NoTag, call(frame[..10].to_vec(), 0), 9);
+        refused(&store, TooLong, call(frame.clone(), 1_025), 9);
+        refused(&store, RoomShort, call(frame.clone(), 1_024), 8);
+        refused(&store, refusal, call(frame.clone(), 1_024), 9);
+        refused(&store, refusal, call(frame.clone(), 0), 9);
+    }
+}
+
+#[test]
+fn report_refuses_in_order() {
+    let store = filled(SUITES[0]);
+    assert_eq!(report(&store[1..], 9), Err(StoreNotSound));
+    assert_eq!(report(&store, 9), Err(KidUnknown));
+    assert_eq!(report(&store, 1), Err(WrongRole));
+    assert_eq!(report(&store, 3), Err(WrongRole));
+    assert_eq!(report(&store, 2), Ok(0));
+}
+
+/// Each frame at most once; a frame whose tag differs moves nothing.
+#[test]
+fn no_frame_is_opened_twice() {
+    for suite in SUITES {
+        let mut store = receiver(suite);
+        for (count, ctr) in (1..).zip([0, 2, 1, 63, 64]) {
+            let damaged = |store: &mut [u8], room: &mut [u8]| {
+                let mut frame = frame_of(suite, ctr);
+                *frame.last_mut().unwrap() ^= 1;
+                open(store, b"", &frame, room)
+            };
+            refused(&store, TagDiffers, damaged, 7);
+            assert_eq!(open_counter(&mut store, ctr), Ok(7));
+            let counted = if ctr < 64 { count } else { count - 1 };
+            assert_eq!(report(&store, 1), Ok(counted));
+            refused(&store, AlreadyOpened, damaged, 7);
+        }
+        // 0 has left the window, and 1 is its last.
+        let again = |ctr| move |store: &mut [u8], _: &mut [u8]| open_counter(store, ctr);
+        refused(&store, TooOld, again(0), 7);
+        refused(&store, AlreadyOpened, again(1), 7);
+
+        // Added again, the key starts with an empty window.
+        assert_eq!(remove(&mut store, 1), Ok(0));
+        let added = add(&mut store, Role::Receiving, suite.number(), 1, &BASE_KEY);
+        assert_eq!((added, report(&store, 1)), (Ok(0), Ok(0)));
+        assert_eq!(open_counter(&mut store, 0), Ok(7));
+    }
 }
 
 #[test]
@@ -436,7 +538,7 @@ fn damaged_and_cut_frames_show_nothing() {
         let frame = seal_to_vec(&mut store, 1, b"metadata", b"plaintext");
         let opens = |frame: &[u8]| {
             let mut room = [0x5a; 64];
-            let answer = open(&receiver, b"metadata", frame, &mut room);
+            let answer = open(&mut receiver.clone(), b"metadata", frame, &mut room);
             assert!(answer.is_ok() || room == [0x5a; 64]);
             answer.is_ok()
         };
@@ -487,7 +589,7 @@ fn a_long_list_of_calls() {
                 let mut other = made(1);
                 add(&mut other, Role::Receiving, suite.number(), kid, &BASE_KEY).unwrap();
                 let mut opened = vec![0; plaintext.len()];
-                let answer = open(&other, b"m", &room[..length], &mut opened);
+                let answer = open(&mut other, b"m", &room[..length], &mut opened);
                 assert_eq!(answer, Ok(plaintext.len()));
                 assert_eq!(opened, plaintext);
             }

@@ -58,7 +58,7 @@ extern "C" {
 
     /// Opens `frame` to its plaintext at the front of `out`.
     pub fn sframe_open(
-        store: *const u8,
+        store: *mut u8,
         store_len: usize,
         frame: *const u8,
         frame_len: usize,
@@ -68,6 +68,9 @@ extern "C" {
         out_len: usize,
         length: *mut usize,
     ) -> u32;
+
+    /// How many of the last 64 counters a receiving key has opened.
+    pub fn sframe_report(store: *const u8, store_len: usize, kid: u64, count: *mut u64) -> u32;
 
     /// Writes a header at the front of `out`.
     pub fn sframe_write_header(

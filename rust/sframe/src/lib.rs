@@ -1,11 +1,12 @@
 //! SFrame (RFC 9605): the safe wrapper over the sealing layer's static library.
 //!
 //! A [`Store`] holds the keys in bytes that the caller lends. It seals under a
-//! key number and its own counter, and opens what another store has sealed. A
-//! call that cannot be done answers a [`Refusal`] and changes nothing.
+//! key number and its own counter, and opens what another store has sealed, each
+//! frame once. A call that cannot be done answers a [`Refusal`] and changes
+//! nothing.
 //!
 //! ```
-//! use sframe::{Kid, Metadata, Role, Store, Suite, RECORD};
+//! use sframe::{Kid, Metadata, Refusal, Role, Store, Suite, RECORD};
 //!
 //! let (mut ward, mut doctor) = ([0; RECORD], [0; RECORD]);
 //! let mut ward = Store::make(&mut ward)?;
@@ -16,7 +17,9 @@
 //!
 //! let frame = ward.seal_to_vec(Kid(200), Metadata::NONE, b"a picture")?;
 //! assert_eq!(doctor.open_to_vec(&frame, Metadata::NONE)?, b"a picture");
-//! # Ok::<(), sframe::Refusal>(())
+//! let again = doctor.open_to_vec(&frame, Metadata::NONE);
+//! assert_eq!(again, Err(Refusal::AlreadyOpened));
+//! # Ok::<(), Refusal>(())
 //! ```
 //!
 //! [`raw`] has the same calls with bare numbers, and [`ffi`] the C functions.
@@ -41,11 +44,11 @@ mod view;
 pub use header::{read_header, write_header, write_header_at, Ctr, Header, Kid, MAX_HEADER};
 pub use limits::{
     frame_room, MAX_BASE_KEY, MAX_COUNTER, MAX_METADATA, MAX_PLAINTEXT, MAX_RATCHET_BITS,
-    MAX_RECORDS, MAX_STEPS, MIN_BASE_KEY, RECORD,
+    MAX_RECORDS, MAX_STEPS, MIN_BASE_KEY, RECORD, WINDOW,
 };
 pub use metadata::Metadata;
 pub use ratchet::{ratchet, ratchet_kid, ratchet_to_vec};
-pub use record::{Record, State};
+pub use record::{Record, State, Window};
 pub use refusal::Refusal;
 pub use store::{Role, Store};
 pub use suite::Suite;

@@ -3,7 +3,7 @@
 use crate::{Suite, MAX_HEADER};
 
 /// The length of a record: a store of `n` keys takes `n` times as many bytes.
-pub const RECORD: usize = 80;
+pub const RECORD: usize = 96;
 /// The most records of a store.
 pub const MAX_RECORDS: usize = 64;
 /// The shortest base key.
@@ -16,6 +16,9 @@ pub const MAX_PLAINTEXT: usize = 32_768;
 pub const MAX_METADATA: usize = 1_024;
 /// The last counter: a key seals one frame with each counter from 0 up to it.
 pub const MAX_COUNTER: u64 = u64::MAX;
+/// How many counters a receiving key remembers, from the highest that it has
+/// opened down.
+pub const WINDOW: u64 = 64;
 /// The most steps of one walk of a base key.
 pub const MAX_STEPS: u64 = 64;
 /// The most bits of the step in a key number.

@@ -6,10 +6,10 @@
 /// A kind of its own, so that it is not exchanged with plaintext or frame:
 ///
 /// ```compile_fail,E0308
-/// use sframe::{Metadata, StoreView};
+/// use sframe::{Metadata, Store, RECORD};
 ///
-/// # let (bytes, frame) = ([0; 80], [0x10]);
-/// StoreView::over(&bytes).open(Metadata(b"ward 3"), &frame, &mut [0; 100]);
+/// # let (mut bytes, frame) = ([0; RECORD], [0x10]);
+/// Store::over(&mut bytes).open(Metadata(b"ward 3"), &frame, &mut [0; 100]);
 /// ```
 #[derive(Clone, Copy, Debug, Default, PartialEq, Eq, Hash)]
 pub struct Metadata<'a>(pub &'a [u8]);

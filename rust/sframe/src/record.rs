@@ -41,6 +41,26 @@ pub struct Record {
     /// Whether that counter was the last one and has been used: the key seals
     /// no more.
     pub spent: bool,
+    /// Which counters it has opened; `None` where it is not receiving, or has
+    /// opened none yet.
+    pub window: Option<Window>,
+}
+
+/// Which of the last [`WINDOW`](crate::WINDOW) counters a receiving key has
+/// opened, the highest among them.
+#[derive(Clone, Copy, Debug, PartialEq, Eq, Hash)]
+pub struct Window {
+    /// The highest counter that it has opened.
+    pub highest: Ctr,
+    /// Bit i is 1 where the counter `highest - i` was opened. Bit 0 always is.
+    pub mask: u64,
+}
+
+impl Window {
+    /// How many of these counters were opened.
+    pub fn count(self) -> u64 {
+        self.mask.count_ones().into()
+    }
 }
 
 /// The records of a sound store, in the order of their places; empty ones are
@@ -54,9 +74,12 @@ pub(crate) fn decode(store: &[u8]) -> Vec<Record> {
 }
 
 fn decode_one(place: usize, bytes: &[u8]) -> Option<Record> {
-    let (&[state, suite, spent, _], rest) = bytes.split_first_chunk()?;
+    let (&[state, suite, spent, _layout], rest) = bytes.split_first_chunk()?;
     let (&kid, rest) = rest.split_first_chunk()?;
-    let &next = rest.first_chunk()?;
+    let (&next, rest) = rest.split_first_chunk()?;
+    let (rest, &mask) = rest.split_last_chunk()?;
+    let &highest = rest.last_chunk()?;
+    let mask = u64::from_be_bytes(mask);
     Some(Record {
         place,
         state: match state {
@@ -69,5 +92,9 @@ fn decode_one(place: usize, bytes: &[u8]) -> Option<Record> {
         kid: Kid(u64::from_be_bytes(kid)),
         next: Ctr(u64::from_be_bytes(next)),
         spent: spent == 1,
+        window: (mask != 0).then_some(Window {
+            highest: Ctr(u64::from_be_bytes(highest)),
+            mask,
+        }),
     })
 }

@@ -18,8 +18,9 @@ use std::fmt;
 #[derive(Clone, Copy, Debug, PartialEq, Eq, Hash, PartialOrd, Ord)]
 #[non_exhaustive]
 pub enum Refusal {
-    /// A rule of the store's layout is broken; in making, the length is no
-    /// multiple of 80 from 80 to 5,120.
+    /// A rule of the store's layout is broken, be it that its records are those
+    /// of 80 bytes that had no window; in making, the length is no multiple of 96
+    /// from 96 to 6,144.
     StoreNotSound = 1,
     /// The suite's number is not 1 to 5. [`Suite`](crate::Suite) has no such
     /// value, so only [`raw`](crate::raw) calls get this answer.
@@ -32,8 +33,8 @@ pub enum Refusal {
     StoreFull = 5,
     /// The store has no record of the key number.
     KidUnknown = 6,
-    /// The record is not for this: sealing needs a sending one, opening a
-    /// receiving one, and a retired one cannot be removed.
+    /// The record is not for this: sealing needs a sending one, opening and the
+    /// report a receiving one, and a retired one cannot be removed.
     WrongRole = 7,
     /// The key has sealed with its last counter, 2^64 - 1.
     CounterSpent = 8,
@@ -48,6 +49,11 @@ pub enum Refusal {
     /// The frame was not sealed under this key and with this metadata, or it
     /// has changed on its way.
     TagDiffers = 13,
+    /// A frame with this key number and counter was opened before.
+    AlreadyOpened = 14,
+    /// The counter lies 64 or more below the highest that was opened, so that
+    /// nobody knows any more whether it was opened before.
+    TooOld = 15,
     /// The suite's tags have 4 bytes, and no new key of it is for sending; a
     /// sending one that a store already has goes on.
     SendingBarred = 17,
@@ -62,7 +68,7 @@ use Refusal::*;
 
 impl Refusal {
     /// Every refusal, by rising number.
-    pub const ALL: [Refusal; 16] = [
+    pub const ALL: [Refusal; 18] = [
         StoreNotSound,
         NoSuchSuite,
         BaseKeyLength,
@@ -76,6 +82,8 @@ impl Refusal {
         FrameShort,
         RoomShort,
         TagDiffers,
+        AlreadyOpened,
+        TooOld,
         SendingBarred,
         BadRatchetKid,
         TooManySteps,
@@ -123,6 +131,8 @@ impl fmt::Display for Refusal {
             FrameShort => "the frame is too short to hold a tag",
             RoomShort => "the room is too short for the result",
             TagDiffers => "the tag does not match",
+            AlreadyOpened => "a frame with this counter was opened before",
+            TooOld => "the counter lies 64 or more below the highest that was opened",
             SendingBarred => "no key is added for sending with suite 3: its tags have 4 bytes",
             BadRatchetKid => "a step has 1 to 16 bits, and the key number must fit in 64",
             TooManySteps => "a key is walked at most 64 steps at once",

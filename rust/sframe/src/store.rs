@@ -22,7 +22,8 @@ impl fmt::Display for Role {
     }
 }
 
-/// A store of keys in bytes that the caller lends, 80 for each key.
+/// A store of keys in bytes that the caller lends, [`RECORD`](crate::RECORD) for
+/// each key.
 ///
 /// Each call judges the whole store before it uses it. A refused call changes
 /// nothing.
@@ -42,25 +43,24 @@ impl fmt::Display for Role {
 /// let length = ward.seal(Kid(200), Metadata(b"camera 2"), picture, &mut room)?;
 /// let frame = &room[..length];
 ///
+/// // Under other metadata the tag does not match, and the room stays as it was.
 /// let mut opened = [0; 9];
+/// let refused = doctor.open(frame, Metadata(b"camera 3"), &mut opened);
+/// assert_eq!(refused, Err(Refusal::TagDiffers));
+/// assert_eq!(opened, [0; 9]);
+///
 /// assert_eq!(doctor.open(frame, Metadata(b"camera 2"), &mut opened)?, 9);
 /// assert_eq!(&opened, picture);
-///
-/// // Under other metadata the tag does not match, and the room stays as it was.
-/// let mut nothing = [0; 9];
-/// let refused = doctor.open(frame, Metadata(b"camera 3"), &mut nothing);
-/// assert_eq!(refused, Err(Refusal::TagDiffers));
-/// assert_eq!(nothing, [0; 9]);
 /// # Ok::<(), Refusal>(())
 /// ```
 ///
 /// Whoever holds a store holds it alone: two at once over the same bytes could
-/// use one counter twice.
+/// use one counter twice, or open one frame twice.
 ///
 /// ```compile_fail,E0499
-/// use sframe::{Kid, Metadata, Store};
+/// use sframe::{Kid, Metadata, Store, RECORD};
 ///
-/// let mut bytes = [0; 80];
+/// let mut bytes = [0; RECORD];
 /// let mut one = Store::over(&mut bytes);
 /// let mut other = Store::over(&mut bytes);
 /// one.remove(Kid(200))?;
@@ -70,21 +70,21 @@ impl fmt::Display for Role {
 /// The room is never a part of the store:
 ///
 /// ```compile_fail,E0499
-/// use sframe::{Kid, Metadata, Store};
+/// use sframe::{Kid, Metadata, Store, RECORD};
 ///
-/// let mut bytes = [0; 160];
+/// let mut bytes = [0; 2 * RECORD];
 /// let mut store = Store::over(&mut bytes);
-/// store.seal(Kid(200), Metadata::NONE, b"picture", &mut bytes[80..])?;
+/// store.seal(Kid(200), Metadata::NONE, b"picture", &mut bytes[RECORD..])?;
 /// # Ok::<(), sframe::Refusal>(())
 /// ```
 ///
 /// Nor is a store copied by a slip, since a copy would seal with counters that
-/// the original uses too:
+/// the original uses too, and open what that opens:
 ///
 /// ```compile_fail,E0599
-/// use sframe::Store;
+/// use sframe::{Store, RECORD};
 ///
-/// let mut bytes = [0; 80];
+/// let mut bytes = [0; RECORD];
 /// let copy = Store::over(&mut bytes).clone();
 /// ```
 pub struct Store<'a>(&'a mut [u8]);
@@ -99,8 +99,8 @@ impl<'a> Store<'a> {
     /// ```
     /// use sframe::{Refusal, Store};
     ///
-    /// assert!(Store::make(&mut [0; 5_120]).is_ok());
-    /// assert_eq!(Store::make(&mut [0; 81]).err(), Some(Refusal::StoreNotSound));
+    /// assert!(Store::make(&mut [0; 6_144]).is_ok());
+    /// assert_eq!(Store::make(&mut [0; 97]).err(), Some(Refusal::StoreNotSound));
     /// ```
     pub fn make(bytes: &'a mut [u8]) -> Result<Self, Refusal> {
         Refusal::check(raw::make(bytes), ())?;
@@ -111,9 +111,9 @@ impl<'a> Store<'a> {
     /// bytes may be given.
     ///
     /// ```
-    /// use sframe::{Kid, Refusal, Store};
+    /// use sframe::{Kid, Refusal, Store, RECORD};
     ///
-    /// let mut bytes = [0xff; 80];
+    /// let mut bytes = [0xff; RECORD];
     /// let mut store = Store::over(&mut bytes);
     /// assert_eq!(store.remove(Kid(200)), Err(Refusal::StoreNotSound));
     /// ```
@@ -125,7 +125,8 @@ impl<'a> Store<'a> {
     /// empty record.
     ///
     /// A key number that was added for sending is never added again in this
-    /// store, so that its counters do not start anew. The suite whose tags have 4
+    /// store, so that its counters do not start anew. A receiving key has opened
+    /// nothing yet. The suite whose tags have 4
     /// bytes is for receiving alone.
     ///
     /// Refusals, the first that holds: [`StoreNotSound`](Refusal::StoreNotSound),
@@ -134,9 +135,9 @@ impl<'a> Store<'a> {
     /// [`StoreFull`](Refusal::StoreFull).
     ///
     /// ```
-    /// use sframe::{Kid, Refusal, Role, Store, Suite};
+    /// use sframe::{Kid, Refusal, Role, Store, Suite, RECORD};
     ///
-    /// let mut bytes = [0; 80];
+    /// let mut bytes = [0; RECORD];
     /// let mut store = Store::make(&mut bytes)?;
     /// let suite = Suite::Aes128CtrHmacSha256_32;
     /// let refused = store.add(Role::Sending, suite, Kid(200), &[7; 16]);
@@ -158,16 +159,17 @@ impl<'a> Store<'a> {
         Refusal::check(add(self.0, kid.0, suite.number(), base_key), ())
     }
 
-    /// Removes the key of `kid`. A receiving one leaves its record empty; a
-    /// sending one leaves a retired record that keeps the key number.
+    /// Removes the key of `kid`. A receiving one leaves its record empty, and
+    /// which frames it has opened is forgotten; a sending one leaves a retired
+    /// record that keeps the key number.
     ///
     /// Refusals, the first that holds: [`StoreNotSound`](Refusal::StoreNotSound),
     /// [`KidUnknown`](Refusal::KidUnknown), [`WrongRole`](Refusal::WrongRole).
     ///
     /// ```
-    /// use sframe::{Kid, Refusal, Role, Store, Suite};
+    /// use sframe::{Kid, Refusal, Role, Store, Suite, RECORD};
     ///
-    /// let mut bytes = [0; 80];
+    /// let mut bytes = [0; RECORD];
     /// let mut store = Store::make(&mut bytes)?;
     /// let suite = Suite::Aes128GcmSha256_128;
     /// store.add(Role::Sending, suite, Kid(200), &[7; 16])?;
@@ -207,9 +209,9 @@ impl<'a> Store<'a> {
     /// and the frame together, be the offset past its end.
     ///
     /// ```
-    /// use sframe::{Kid, Metadata, Refusal, Role, Store, Suite};
+    /// use sframe::{Kid, Metadata, Refusal, Role, Store, Suite, RECORD};
     ///
-    /// let mut bytes = [0; 80];
+    /// let mut bytes = [0; RECORD];
     /// let mut store = Store::make(&mut bytes)?;
     /// store.add(Role::Sending, Suite::Aes128GcmSha256_128, Kid(1), &[7; 16])?;
     ///
@@ -238,9 +240,9 @@ impl<'a> Store<'a> {
     /// does, except that the room suffices.
     ///
     /// ```
-    /// use sframe::{Kid, Metadata, Role, Store, Suite};
+    /// use sframe::{Kid, Metadata, Role, Store, Suite, RECORD};
     ///
-    /// let mut bytes = [0; 80];
+    /// let mut bytes = [0; RECORD];
     /// let mut store = Store::make(&mut bytes)?;
     /// store.add(Role::Sending, Suite::Aes128GcmSha256_128, Kid(1), &[7; 16])?;
     /// let frame = store.seal_to_vec(Kid(1), Metadata::NONE, b"")?;
@@ -260,19 +262,65 @@ impl<'a> Store<'a> {
         Ok(frame)
     }
 
-    /// As [`StoreView::open`].
+    /// Opens `frame` to its plaintext at the front of `room` and answers the
+    /// plaintext's length. The bytes behind it stay as they are, and nothing is
+    /// written before the tag is found to match. A room as long as the frame is
+    /// always enough.
+    ///
+    /// No frame is opened twice: the key remembers which of the last
+    /// [`WINDOW`](crate::WINDOW) counters it has opened. Frames may come in any
+    /// order, as long as they are fewer than that behind.
+    ///
+    /// Refusals, the first that holds: [`StoreNotSound`](Refusal::StoreNotSound),
+    /// [`BadHeader`](Refusal::BadHeader), [`KidUnknown`](Refusal::KidUnknown),
+    /// [`WrongRole`](Refusal::WrongRole), [`FrameShort`](Refusal::FrameShort),
+    /// [`TooLong`](Refusal::TooLong), [`RoomShort`](Refusal::RoomShort),
+    /// [`AlreadyOpened`](Refusal::AlreadyOpened), [`TooOld`](Refusal::TooOld),
+    /// [`TagDiffers`](Refusal::TagDiffers).
     pub fn open(
-        &self,
+        &mut self,
         frame: &[u8],
         metadata: Metadata,
         room: &mut [u8],
     ) -> Result<usize, Refusal> {
-        self.view().open(frame, metadata, room)
+        let written = raw::open(self.0, frame, metadata.0, room);
+        Refusal::check(written.number, written.length)
     }
 
-    /// As [`StoreView::open_to_vec`].
-    pub fn open_to_vec(&self, frame: &[u8], metadata: Metadata) -> Result<Vec<u8>, Refusal> {
-        self.view().open_to_vec(frame, metadata)
+    /// Opens `frame` to a plaintext of its own. Refuses as [`open`](Self::open)
+    /// does, except that the room suffices.
+    ///
+    /// ```
+    /// use sframe::{Kid, Metadata, Refusal, Role, Store, Suite, RECORD};
+    ///
+    /// let suite = Suite::Aes128GcmSha256_128;
+    /// let (mut ward, mut doctor) = ([0; RECORD], [0; RECORD]);
+    /// let mut ward = Store::make(&mut ward)?;
+    /// let mut doctor = Store::make(&mut doctor)?;
+    /// ward.add(Role::Sending, suite, Kid(200), &[7; 16])?;
+    /// doctor.add(Role::Receiving, suite, Kid(200), &[7; 16])?;
+    /// let mut seal = || ward.seal_to_vec(Kid(200), Metadata::NONE, b"picture");
+    ///
+    /// // The second frame comes first, and then each comes once more.
+    /// let (first, second) = (seal()?, seal()?);
+    /// assert_eq!(doctor.open_to_vec(&second, Metadata::NONE)?, b"picture");
+    /// assert_eq!(doctor.open_to_vec(&first, Metadata::NONE)?, b"picture");
+    /// for frame in [first, second] {
+    ///     let again = doctor.open_to_vec(&frame, Metadata::NONE);
+    ///     assert_eq!(again, Err(Refusal::AlreadyOpened));
+    /// }
+    /// # Ok::<(), Refusal>(())
+    /// ```
+    pub fn open_to_vec(&mut self, frame: &[u8], metadata: Metadata) -> Result<Vec<u8>, Refusal> {
+        let mut plaintext = vec![0; frame.len().min(MAX_PLAINTEXT)];
+        let length = self.open(frame, metadata, &mut plaintext)?;
+        plaintext.truncate(length);
+        Ok(plaintext)
+    }
+
+    /// As [`StoreView::report`].
+    pub fn report(&self, kid: Kid) -> Result<u64, Refusal> {
+        self.view().report(kid)
     }
 
     /// The records in use, by rising place, without their keys.
@@ -280,9 +328,9 @@ impl<'a> Store<'a> {
     /// Refuses with [`Refusal::StoreNotSound`].
     ///
     /// ```
-    /// use sframe::{Ctr, Kid, Metadata, Role, State, Store, Suite};
+    /// use sframe::{Ctr, Kid, Metadata, Role, State, Store, Suite, RECORD};
     ///
-    /// let mut bytes = [0; 160];
+    /// let mut bytes = [0; 2 * RECORD];
     /// let mut store = Store::make(&mut bytes)?;
     /// store.add(Role::Sending, Suite::Aes128GcmSha256_128, Kid(200), &[7; 16])?;
     /// store.seal_to_vec(Kid(200), Metadata::NONE, b"picture")?;

@@ -17,9 +17,9 @@ use std::fmt;
 /// A bare number does not pass for a suite:
 ///
 /// ```compile_fail,E0308
-/// use sframe::{Kid, Role, Store};
+/// use sframe::{Kid, Role, Store, RECORD};
 ///
-/// let mut bytes = [0; 80];
+/// let mut bytes = [0; RECORD];
 /// let mut store = Store::make(&mut bytes)?;
 /// store.add(Role::Sending, 6, Kid(200), &[7; 16])?;
 /// # Ok::<(), sframe::Refusal>(())

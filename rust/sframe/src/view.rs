@@ -1,42 +1,27 @@
-//! A store that is only read: opening and listing.
+//! A store that is only read: reporting and listing.
 
-use crate::limits::MAX_PLAINTEXT;
 use crate::record::{self, Record};
-use crate::{raw, Metadata, Refusal};
+use crate::{raw, Kid, Refusal};
 use std::fmt;
 
-/// A store lent for reading. Opening changes nothing in a store, so any number
-/// of views may open frames at once, from several threads too.
+/// A store lent for reading. Any number of views may be over one store at once,
+/// in several threads too.
 ///
-/// ```
-/// use sframe::{Kid, Metadata, Role, Store, StoreView, Suite};
-///
-/// let suite = Suite::Aes128GcmSha256_128;
-/// let (mut ward, mut doctor) = ([0; 80], [0; 80]);
-/// let mut sender = Store::make(&mut ward)?;
-/// sender.add(Role::Sending, suite, Kid(200), &[7; 16])?;
-/// Store::make(&mut doctor)?.add(Role::Receiving, suite, Kid(200), &[7; 16])?;
-///
-/// let first = sender.seal_to_vec(Kid(200), Metadata::NONE, b"first")?;
-/// let second = sender.seal_to_vec(Kid(200), Metadata::NONE, b"second")?;
-/// let view = StoreView::over(&doctor);
-/// std::thread::scope(|scope| {
-///     for (frame, plaintext) in [(first, &b"first"[..]), (second, b"second")] {
-///         scope.spawn(move || {
-///             assert_eq!(view.open_to_vec(&frame, Metadata::NONE).unwrap(), plaintext);
-///         });
-///     }
-/// });
-/// # Ok::<(), sframe::Refusal>(())
-/// ```
-///
-/// A view does not seal, since sealing takes a counter:
+/// A view neither seals nor opens: sealing takes a counter, and opening
+/// remembers one.
 ///
 /// ```compile_fail,E0599
-/// use sframe::{Kid, Metadata, StoreView};
+/// use sframe::{Kid, Metadata, StoreView, RECORD};
 ///
-/// # let doctor = [0; 80];
-/// StoreView::over(&doctor).seal(Kid(200), Metadata::NONE, b"picture", &mut [0; 100]);
+/// # let ward = [0; RECORD];
+/// StoreView::over(&ward).seal(Kid(200), Metadata::NONE, b"picture", &mut [0; 100]);
+/// ```
+///
+/// ```compile_fail,E0599
+/// use sframe::{Metadata, StoreView, RECORD};
+///
+/// # let (doctor, frame) = ([0; RECORD], [0x10]);
+/// StoreView::over(&doctor).open(&frame, Metadata::NONE, &mut [0; 100]);
 /// ```
 #[derive(Clone, Copy)]
 pub struct StoreView<'a>(&'a [u8]);
@@ -47,35 +32,45 @@ impl<'a> StoreView<'a> {
         StoreView(bytes)
     }
 
-    /// Opens `frame` to its plaintext at the front of `room` and answers the
-    /// plaintext's length. The bytes behind it stay as they are, and nothing is
-    /// written before the tag is found to match.
+    /// How many of the last [`WINDOW`](crate::WINDOW) counters were opened under
+    /// the key of `kid`, the highest that was opened among them; 0 where none was
+    /// yet.
     ///
     /// Refusals, the first that holds: [`StoreNotSound`](Refusal::StoreNotSound),
-    /// [`BadHeader`](Refusal::BadHeader), [`KidUnknown`](Refusal::KidUnknown),
-    /// [`WrongRole`](Refusal::WrongRole), [`FrameShort`](Refusal::FrameShort),
-    /// [`TooLong`](Refusal::TooLong), [`RoomShort`](Refusal::RoomShort),
-    /// [`TagDiffers`](Refusal::TagDiffers).
-    pub fn open(self, frame: &[u8], metadata: Metadata, room: &mut [u8]) -> Result<usize, Refusal> {
-        let written = raw::open(self.0, frame, metadata.0, room);
-        Refusal::check(written.number, written.length)
-    }
-
-    /// Opens `frame` to a plaintext of its own. Refuses as [`open`](Self::open)
-    /// does, except that the room suffices.
-    pub fn open_to_vec(self, frame: &[u8], metadata: Metadata) -> Result<Vec<u8>, Refusal> {
-        let mut plaintext = vec![0; frame.len().min(MAX_PLAINTEXT)];
-        let length = self.open(frame, metadata, &mut plaintext)?;
-        plaintext.truncate(length);
-        Ok(plaintext)
+    /// [`KidUnknown`](Refusal::KidUnknown), [`WrongRole`](Refusal::WrongRole)
+    /// unless the key is receiving.
+    ///
+    /// ```
+    /// use sframe::{Kid, Metadata, Role, Store, Suite, RECORD};
+    ///
+    /// let suite = Suite::Aes128GcmSha256_128;
+    /// let (mut ward, mut doctor) = ([0; RECORD], [0; RECORD]);
+    /// let mut ward = Store::make(&mut ward)?;
+    /// let mut doctor = Store::make(&mut doctor)?;
+    /// ward.add(Role::Sending, suite, Kid(200), &[7; 16])?;
+    /// doctor.add(Role::Receiving, suite, Kid(200), &[7; 16])?;
+    ///
+    /// // Two frames arrive, and the one between them is lost.
+    /// for lost in [false, true, false] {
+    ///     let frame = ward.seal_to_vec(Kid(200), Metadata::NONE, b"picture")?;
+    ///     if !lost {
+    ///         doctor.open_to_vec(&frame, Metadata::NONE)?;
+    ///     }
+    /// }
+    /// assert_eq!(doctor.report(Kid(200)), Ok(2));
+    /// # Ok::<(), sframe::Refusal>(())
+    /// ```
+    pub fn report(self, kid: Kid) -> Result<u64, Refusal> {
+        let report = raw::report(self.0, kid.0);
+        Refusal::check(report.number, report.count)
     }
 
     /// Refuses with [`Refusal::StoreNotSound`] unless the store is sound.
     pub fn check(self) -> Result<(), Refusal> {
-        // Opening judges the store before it finds that no bytes hold no header.
-        match self.open(&[], Metadata::NONE, &mut []) {
-            Err(Refusal::BadHeader) => Ok(()),
-            judged => judged.map(drop),
+        // A report judges the store before it looks for a key number, be it any.
+        match self.report(Kid(0)) {
+            Err(Refusal::StoreNotSound) => Err(Refusal::StoreNotSound),
+            _ => Ok(()),
         }
     }
 

@@ -33,6 +33,8 @@ fn refusals() {
         "FRAME_SHORT",
         "ROOM_SHORT",
         "TAG_DIFFERS",
+        "ALREADY_OPENED",
+        "TOO_OLD",
         "SENDING_BARRED",
         "RATCHET_KID_INVALID",
         "TOO_MANY_STEPS",
@@ -65,9 +67,15 @@ fn sizes() {
         ("MAX_METADATA", MAX_METADATA),
         ("MAX_HEADER", MAX_HEADER),
         ("MAX_TAG", longest_tag.unwrap_or(0)),
+        ("WINDOW", WINDOW as usize),
         ("MAX_STEPS", MAX_STEPS as usize),
         ("MAX_RATCHET_BITS", MAX_RATCHET_BITS as usize),
     ] {
         assert_eq!(constants[&*format!("SFRAME_{name}")], size as u64, "{name}");
     }
+    let header = include_str!("../../../include/sframe.h");
+    let store = format!("#define SFRAME_STORE_SIZE(keys) ((size_t){RECORD} * (keys))\n");
+    assert!(header.contains(&store));
+    let lengths = format!("is not {RECORD} to {} in steps", MAX_RECORDS * RECORD);
+    assert!(header.contains(&lengths));
 }

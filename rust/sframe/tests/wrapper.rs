@@ -3,7 +3,7 @@
 use reference::record::{Record, State as ReferenceState};
 use reference::suites::Suite as ReferenceSuite;
 use sframe::{
-    frame_room, raw, Ctr, Kid, Metadata, Refusal, Role, State, Store, StoreView, Suite,
+    frame_room, raw, Ctr, Kid, Metadata, Refusal, Role, State, Store, StoreView, Suite, Window,
     MAX_COUNTER, MAX_METADATA, MAX_PLAINTEXT, MAX_RECORDS, RECORD,
 };
 
@@ -32,7 +32,7 @@ fn put_sender(bytes: &mut [u8], suite: Suite) {
 
 #[test]
 fn numbers_and_names_of_refusals() {
-    let numbers = (1..=13).chain([17, 20, 21]);
+    let numbers = (1..=15).chain([17, 20, 21]);
     assert_eq!(numbers.clone().count(), Refusal::ALL.len());
     for (number, refusal) in numbers.zip(Refusal::ALL) {
         assert_eq!(refusal.number(), number);
@@ -40,7 +40,7 @@ fn numbers_and_names_of_refusals() {
         let same = |other: &&Refusal| other.to_string() == refusal.to_string();
         assert_eq!(Refusal::ALL.iter().filter(same).count(), 1);
     }
-    for number in [0, 14, 16, 18, 19, 22, 256 + 1, u32::MAX] {
+    for number in [0, 16, 18, 19, 22, 256 + 1, u32::MAX] {
         assert_eq!(Refusal::from_number(number), None);
     }
 }
@@ -61,8 +61,8 @@ fn numbers_of_suites() {
 fn both_forms_agree() {
     let longest = vec![0x5a; MAX_PLAINTEXT];
     for suite in Suite::ALL {
-        let (mut ward, doctor) = stores(suite);
-        let mut copy = ward;
+        let (mut ward, mut doctor) = stores(suite);
+        let (mut copy, mut doctors_copy) = (ward, doctor);
         for plaintext in [&b""[..], b"a picture", &longest] {
             for metadata in [Metadata::NONE, Metadata(b"ward 3")] {
                 let mut room = vec![0; frame_room(suite, plaintext.len())];
@@ -73,14 +73,20 @@ fn both_forms_agree() {
                     .unwrap();
                 assert_eq!(frame, room[..length]);
 
-                let view = StoreView::over(&doctor);
-                assert_eq!(view.open_to_vec(&frame, metadata).unwrap(), plaintext);
+                // Each frame opens once in each store.
+                let mut store = Store::over(&mut doctors_copy);
+                assert_eq!(store.open_to_vec(&frame, metadata).unwrap(), plaintext);
+                let mut store = Store::over(&mut doctor);
                 let mut room = vec![0; plaintext.len()];
-                assert_eq!(view.open(&frame, metadata, &mut room), Ok(plaintext.len()));
+                assert_eq!(store.open(&frame, metadata, &mut room), Ok(plaintext.len()));
                 assert_eq!(room, plaintext);
+                let again = store.open_to_vec(&frame, metadata);
+                assert_eq!(again, Err(Refusal::AlreadyOpened));
+                let again = store.open(&frame, metadata, &mut room);
+                assert_eq!(again, Err(Refusal::AlreadyOpened));
             }
         }
-        assert_eq!(ward, copy);
+        assert_eq!((ward, doctor), (copy, doctors_copy));
     }
 }
 
@@ -90,13 +96,13 @@ fn both_forms_agree() {
 fn vector_forms_refuse_what_is_too_long() {
     let long = vec![0x80; 10 * MAX_PLAINTEXT];
     for suite in Suite::ALL {
-        let (mut ward, doctor) = stores(suite);
+        let (mut ward, mut doctor) = stores(suite);
         let mut store = Store::over(&mut ward);
         for length in [MAX_PLAINTEXT + 1, 9 * MAX_PLAINTEXT] {
             let answer = store.seal_to_vec(KID, Metadata::NONE, &long[..length]);
             assert_eq!(answer, Err(Refusal::TooLong));
             let frame = [&[0x80, 200], &long[..length + suite.nt()]].concat();
-            let answer = StoreView::over(&doctor).open_to_vec(&frame, Metadata::NONE);
+            let answer = Store::over(&mut doctor).open_to_vec(&frame, Metadata::NONE);
             assert_eq!(answer, Err(Refusal::TooLong));
         }
         let metadata = Metadata(&long[..MAX_METADATA + 1]);
@@ -144,8 +150,8 @@ fn records_of_every_state() {
 fn only_sound_stores_are_listed() {
     for length in [
         0,
-        79,
-        81,
+        RECORD - 1,
+        RECORD + 1,
         RECORD * MAX_RECORDS + 1,
         RECORD * (MAX_RECORDS + 1),
     ] {
@@ -168,17 +174,56 @@ fn only_sound_stores_are_listed() {
     assert_eq!(StoreView::over(&ward).check(), Err(Refusal::StoreNotSound));
 }
 
+/// What a key has opened is listed and reported.
+#[test]
+fn windows() {
+    let (mut ward, mut doctor) = stores(Suite::ALL[3]);
+    let mut ward = Store::over(&mut ward);
+    let mut doctor = Store::over(&mut doctor);
+    let frames: Vec<Vec<u8>> = (0..70)
+        .map(|_| ward.seal_to_vec(KID, Metadata::NONE, b"").unwrap())
+        .collect();
+    assert_eq!(doctor.records().unwrap()[0].window, None);
+    assert_eq!(doctor.report(KID), Ok(0));
+    for (ctr, highest, mask) in [
+        (5, 5, 0b1),
+        (3, 5, 0b101),
+        (6, 6, 0b1011),
+        (66, 66, 1 << 63 | 1 << 61 | 1 << 60 | 1),
+        (69, 69, 1 << 63 | 0b1001),
+    ] {
+        doctor.open_to_vec(&frames[ctr], Metadata::NONE).unwrap();
+        let window = doctor.records().unwrap()[0].window.unwrap();
+        let expected = Window {
+            highest: Ctr(highest),
+            mask,
+        };
+        assert_eq!(window, expected);
+        assert_eq!(doctor.report(KID), Ok(window.count()));
+    }
+    for (ctr, refusal) in [(6, Refusal::AlreadyOpened), (5, Refusal::TooOld)] {
+        let answer = doctor.open_to_vec(&frames[ctr], Metadata::NONE);
+        assert_eq!(answer, Err(refusal));
+    }
+
+    assert_eq!(ward.report(KID), Err(Refusal::WrongRole));
+    assert_eq!(ward.report(Kid(7)), Err(Refusal::KidUnknown));
+    assert_eq!(ward.records().unwrap()[0].window, None);
+    let nothing = StoreView::over(&[]);
+    assert_eq!(nothing.report(KID), Err(Refusal::StoreNotSound));
+}
+
 /// Debug output goes to logs, where no key belongs.
 #[test]
 fn debug_shows_no_key() {
     let (mut ward, _) = stores(Suite::ALL[0]);
     assert_eq!(
         format!("{:?}", StoreView::over(&ward)),
-        "StoreView of 160 bytes"
+        "StoreView of 192 bytes"
     );
     assert_eq!(
         format!("{:?}", Store::over(&mut ward)),
-        "Store of 160 bytes"
+        "Store of 192 bytes"
     );
 }
 
@@ -196,12 +241,12 @@ fn one_suite_is_not_added_for_sending() {
     }
 
     let suite = Suite::Aes128CtrHmacSha256_32;
-    let (mut ward, doctor) = stores(suite);
+    let (mut ward, mut doctor) = stores(suite);
     let mut ward = Store::over(&mut ward);
     let frame = ward.seal_to_vec(KID, Metadata::NONE, b"").unwrap();
     assert_eq!(frame.len(), 2 + 4);
-    let view = StoreView::over(&doctor);
-    assert_eq!(view.open_to_vec(&frame, Metadata::NONE), Ok(vec![]));
+    let mut doctor = Store::over(&mut doctor);
+    assert_eq!(doctor.open_to_vec(&frame, Metadata::NONE), Ok(vec![]));
     ward.remove(KID).unwrap();
     assert_eq!(ward.records().unwrap()[0].state, State::Retired);
     let again = ward.add(Role::Receiving, suite, KID, &BASE_KEY);

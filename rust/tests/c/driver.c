@@ -4,7 +4,7 @@
  *
  *     call     1 byte, which one; 3 numbers of 8 bytes; 4 lengths of 8 bytes; then so many bytes of each of
  *              store, first, second and room
- *     answer   4 bytes, the call's number; 3 numbers of 8 bytes: length, KID, CTR; then store and room
+ *     answer   4 bytes, the call's number; 4 numbers of 8 bytes: length, KID, CTR, count; then store and room
  *
  * Ends with status 0 where the input ends between two calls, and says on standard error how many there were.
  */
@@ -32,7 +32,7 @@ struct call {
 struct answer {
     uint32_t number;
     size_t length;
-    uint64_t kid, ctr;
+    uint64_t kid, ctr, count;
 };
 
 static void stop(const char *why)
@@ -99,7 +99,7 @@ static void take_back(uint8_t *lent, size_t length)
 
 static struct answer make(int which, struct call *c)
 {
-    struct answer a = { 0, 0, 0, 0 };
+    struct answer a = { 0, 0, 0, 0, 0 };
     const uint64_t *n = c->number;
     const size_t *l = c->length;
     uint8_t *const *b = c->lent;
@@ -141,6 +141,9 @@ static struct answer make(int which, struct call *c)
     case 11:
         a.number = sframe_write_header_at(n[0], n[1], b[ROOM], l[ROOM], n[2], &a.length);
         break;
+    case 12:
+        a.number = sframe_report(b[STORE], l[STORE], n[0], &a.count);
+        break;
     default:
         stop("there is no such call");
     }
@@ -173,6 +176,7 @@ int main(void)
         give_number(a.length, 8);
         give_number(a.kid, 8);
         give_number(a.ctr, 8);
+        give_number(a.count, 8);
         give(c.lent[STORE], c.length[STORE]);
         give(c.lent[ROOM], c.length[ROOM]);
         if (fflush(stdout) != 0) {

@@ -21,7 +21,7 @@ static uint8_t sending[SFRAME_STORE_SIZE(RECORDS)], receiving[SFRAME_STORE_SIZE(
 static uint8_t plaintext[SFRAME_MAX_PLAINTEXT], metadata[SFRAME_MAX_METADATA], opened[SFRAME_MAX_PLAINTEXT];
 static uint8_t frame[SFRAME_FRAME_ROOM(SFRAME_MAX_PLAINTEXT)], key[SFRAME_MAX_BASE_KEY];
 static size_t frame_len, length;
-static uint64_t suite, kid, ctr;
+static uint64_t suite, kid, ctr, count;
 static uint32_t answer;
 
 static void nothing(void) { answer = 0; }
@@ -46,6 +46,7 @@ static void open_frame(void)
     answer = sframe_open(receiving, sizeof receiving, frame, frame_len, metadata, sizeof metadata, opened, sizeof opened, &length);
 }
 
+static void report(void) { answer = sframe_report(receiving, sizeof receiving, RECORDS, &count); }
 static void write_header(void) { answer = sframe_write_header(UINT64_MAX, UINT64_MAX, frame, sizeof frame, &length); }
 static void write_header_at(void) { answer = sframe_write_header_at(UINT64_MAX, UINT64_MAX, frame, sizeof frame, 1, &length); }
 static void read_header(void) { answer = sframe_read_header(frame, SFRAME_MAX_HEADER, &kid, &ctr, &length); }
@@ -85,6 +86,7 @@ static const struct {
     { "sframe_seal", seal },
     { "sframe_seal_at", seal_at },
     { "sframe_open", open_frame },
+    { "sframe_report", report },
     { "sframe_remove", remove_key },
     { "sframe_write_header_at", write_header_at },
     { "sframe_write_header", write_header },

@@ -3,9 +3,12 @@
 use crate::layer;
 use crate::lent::Lent;
 use crate::number::DONE;
+use crate::WINDOW_AT;
+use reference::header::read_header;
+use reference::record::Record;
 use reference::refusal::number_and_length;
-use sframe::raw::Written;
-use sframe::Role;
+use sframe::raw::{Report, Written};
+use sframe::{Role, RECORD};
 use std::fmt;
 use testkit::PATTERN;
 
@@ -35,6 +38,9 @@ pub enum Call<'a> {
         metadata: &'a [u8],
         room: usize,
     },
+    Report {
+        kid: u64,
+    },
 }
 
 /// What a call answered and left.
@@ -44,6 +50,8 @@ pub struct Outcome {
     pub number: u32,
     /// The length of the result.
     pub length: usize,
+    /// What a report counted; 0 of every other call.
+    pub count: u64,
     /// Where in the room the result stands.
     pub offset: usize,
     /// The store afterwards.
@@ -63,9 +71,10 @@ impl Outcome {
 }
 
 /// Makes `call` on a copy of `store` on both sides, and checks that number,
-/// length, store and room are the same, that a refusal left everything as it
-/// was, and that nothing before or behind a result was written. Sealing at
-/// offset 0 is made by both of its calls.
+/// length, count, store and room are the same, that a refusal left everything as
+/// it was, that an opening changed the window of its own record alone, and that
+/// nothing before or behind a result was written. Sealing at offset 0 is made by
+/// both of its calls.
 #[track_caller]
 pub fn compare(store: &[u8], call: Call) -> Outcome {
     let ours = on_layer(store, call);
@@ -74,9 +83,9 @@ pub fn compare(store: &[u8], call: Call) -> Outcome {
     }
     let theirs = on_reference(store, call);
     assert_eq!(
-        (ours.number, ours.length),
-        (theirs.number, theirs.length),
-        "{call}: number and length"
+        (ours.number, ours.length, ours.count),
+        (theirs.number, theirs.length, theirs.count),
+        "{call}: number, length and count"
     );
     check_same("store", &ours.store, &theirs.store, call);
     check_same("room", &ours.room, &theirs.room, call);
@@ -88,13 +97,28 @@ pub fn compare(store: &[u8], call: Call) -> Outcome {
         front.iter().chain(behind).all(|&byte| byte == PATTERN),
         "{call}: wrote beside its result"
     );
-    if ours.number != DONE || matches!(call, Call::Open { .. }) {
+    if ours.number != DONE || matches!(call, Call::Report { .. }) {
         check_same("store before and after", &ours.store, store, call);
     }
+    if let (DONE, Call::Open { frame, .. }) = (ours.number, call) {
+        let mut left = ours.store.clone();
+        let at = window_of(store, frame);
+        left[at..at + 16].copy_from_slice(&store[at..at + 16]);
+        check_same("store but for the window", &left, store, call);
+    }
     if ours.number != DONE {
-        assert_eq!(ours.length, 0, "{call}: refused with a length");
+        assert_eq!((ours.length, ours.count), (0, 0), "{call}: refused");
     }
     ours
+}
+
+/// Where in a sound store the window of a frame's key stands.
+fn window_of(store: &[u8], frame: &[u8]) -> usize {
+    let (kid, _, _) = read_header(frame).expect("an opened frame has a header");
+    let holds =
+        |bytes: &[u8]| matches!(Record::decode(bytes), Ok(Some(record)) if record.kid == kid);
+    let place = store.chunks_exact(RECORD).position(holds);
+    place.expect("an opened frame has a key") * RECORD + WINDOW_AT
 }
 
 #[track_caller]
@@ -109,6 +133,7 @@ fn check_same(what: &str, ours: &[u8], theirs: &[u8], call: Call) {
 fn on_layer(store: &[u8], call: Call) -> Outcome {
     let mut store = Lent::copy(store);
     let mut room = Lent::room(call.room());
+    let mut count = 0;
     let done = |number| Written { number, length: 0 };
     let Written { number, length } = match call {
         Call::Make => done(layer::make(store.lend())),
@@ -134,11 +159,17 @@ fn on_layer(store: &[u8], call: Call) -> Outcome {
         } => layer::seal_at(store.lend(), kid, metadata, plaintext, room.lend(), offset),
         Call::Open {
             frame, metadata, ..
-        } => layer::open(store.bytes(), frame, metadata, room.lend()),
+        } => layer::open(store.lend(), frame, metadata, room.lend()),
+        Call::Report { kid } => {
+            let report: Report = layer::report(store.lend(), kid);
+            count = report.count;
+            done(report.number)
+        }
     };
     Outcome {
         number,
         length,
+        count,
         offset: call.offset(),
         store: store.take_back(),
         room: room.take_back(),
@@ -164,6 +195,7 @@ fn at_front(store: &[u8], call: Call) -> Outcome {
     Outcome {
         number,
         length,
+        count: 0,
         offset: 0,
         store: store.take_back(),
         room: room.take_back(),
@@ -171,9 +203,10 @@ fn at_front(store: &[u8], call: Call) -> Outcome {
 }
 
 fn on_reference(store: &[u8], call: Call) -> Outcome {
-    use reference::store::{add, make, open, remove, seal_at, Role as ReferenceRole};
+    use reference::store::{add, make, open, remove, report, seal_at, Role as ReferenceRole};
     let mut store = store.to_vec();
     let mut room = vec![PATTERN; call.room()];
+    let mut count = 0;
     let answer = match call {
         Call::Make => make(&mut store),
         Call::Add {
@@ -198,12 +231,17 @@ fn on_reference(store: &[u8], call: Call) -> Outcome {
         } => seal_at(&mut store, kid, metadata, plaintext, &mut room, offset),
         Call::Open {
             frame, metadata, ..
-        } => open(&store, metadata, frame, &mut room),
+        } => open(&mut store, metadata, frame, &mut room),
+        Call::Report { kid } => report(&store, kid).map(|opened| {
+            count = opened;
+            0
+        }),
     };
     let (number, length) = number_and_length(answer);
     Outcome {
         number,
         length,
+        count,
         offset: call.offset(),
         store,
         room,
@@ -215,7 +253,7 @@ impl Call<'_> {
     fn room(&self) -> usize {
         match *self {
             Call::Seal { room, .. } | Call::Open { room, .. } => room,
-            Call::Make | Call::Add { .. } | Call::Remove { .. } => 0,
+            Call::Make | Call::Add { .. } | Call::Remove { .. } | Call::Report { .. } => 0,
         }
     }
 
@@ -267,6 +305,7 @@ impl fmt::Display for Call<'_> {
                 &frame[..frame.len().min(17)],
                 metadata.len()
             ),
+            Call::Report { kid } => write!(f, "Report, KID {kid:#x}"),
         }
     }
 }

@@ -2,7 +2,7 @@
 //! command, a program that has another build of it linked (`c/driver.c`). Each
 //! thread starts that program once, and makes its calls by it.
 
-use sframe::raw::{self, RatchetKid, Read as ReadHeader, Written};
+use sframe::raw::{self, RatchetKid, Read as ReadHeader, Report, Written};
 use std::cell::RefCell;
 use std::env;
 use std::io::{Read, Write};
@@ -23,6 +23,7 @@ enum Which {
     RatchetKid,
     SealAt,
     WriteHeaderAt,
+    Report,
 }
 
 /// What a driver answers beside store and room.
@@ -31,6 +32,7 @@ struct Answer {
     length: usize,
     kid: u64,
     ctr: u64,
+    count: u64,
 }
 
 impl Answer {
@@ -90,7 +92,7 @@ impl Driver {
         let input = self.input.as_mut().expect("the driver has not ended");
         input.write_all(&call).expect("the driver reads");
 
-        let mut head = [0; 28];
+        let mut head = [0; 36];
         let mut read = |bytes: &mut [u8]| self.output.read_exact(bytes).expect("it answers");
         read(&mut head);
         read(store);
@@ -101,6 +103,7 @@ impl Driver {
             length: number(4) as usize,
             kid: number(12),
             ctr: number(20),
+            count: number(28),
         }
     }
 }
@@ -191,15 +194,21 @@ pub fn seal_at(
     }
 }
 
-/// The store that the driver's call left is compared too.
-pub fn open(store: &[u8], frame: &[u8], metadata: &[u8], room: &mut [u8]) -> Written {
-    let mut copy = store.to_vec();
-    match driven(Which::Open, [0; 3], &mut copy, [frame, metadata], room) {
-        Some(answer) => {
-            assert_eq!(copy, store, "Open has changed the store");
-            answer.written()
-        }
+pub fn open(store: &mut [u8], frame: &[u8], metadata: &[u8], room: &mut [u8]) -> Written {
+    match driven(Which::Open, [0; 3], store, [frame, metadata], room) {
+        Some(answer) => answer.written(),
         None => raw::open(store, frame, metadata, room),
+    }
+}
+
+/// The store that the driver's call left is compared too.
+pub fn report(store: &mut [u8], kid: u64) -> Report {
+    match driven(Which::Report, [kid, 0, 0], store, [&[]; 2], &mut []) {
+        Some(answer) => Report {
+            number: answer.number,
+            count: answer.count,
+        },
+        None => raw::report(store, kid),
     }
 }
 

@@ -20,11 +20,6 @@ impl Lent {
     }
 
     /// What is lent.
-    pub fn bytes(&self) -> &[u8] {
-        &self.0[MARGIN..self.0.len() - MARGIN]
-    }
-
-    /// What is lent, for writing.
     pub fn lend(&mut self) -> &mut [u8] {
         let end = self.0.len() - MARGIN;
         &mut self.0[MARGIN..end]

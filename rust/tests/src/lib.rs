@@ -14,8 +14,8 @@ pub use call::{compare, Call, Outcome};
 pub use header::{compare_read_header, compare_write_header, compare_write_header_at, forms};
 pub use ratchet::{compare_kid, compare_walk};
 pub use stores::{
-    after, done, frame, frame_with, made, retire, set_counter, spend, with_key, Key, ANY_KEY,
-    COUNTER_AT, RECEIVE_ONLY, SPENT_AT,
+    after, done, frame, frame_with, made, retire, set_counter, set_window, spend, window, with_key,
+    Key, ANY_KEY, COUNTER_AT, LAYOUT_AT, RECEIVE_ONLY, SPENT_AT, WINDOW_AT,
 };
 
 /// The numbers of the refusals.
@@ -35,6 +35,8 @@ pub mod number {
     pub const FRAME_SHORT: u32 = 11;
     pub const ROOM_SHORT: u32 = 12;
     pub const TAG_DIFFERS: u32 = 13;
+    pub const ALREADY_OPENED: u32 = 14;
+    pub const TOO_OLD: u32 = 15;
     pub const SENDING_BARRED: u32 = 17;
     pub const BAD_RATCHET_KID: u32 = 20;
     pub const TOO_MANY_STEPS: u32 = 21;

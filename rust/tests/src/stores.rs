@@ -14,6 +14,10 @@ use testkit::PATTERN;
 pub const COUNTER_AT: usize = 12;
 /// Where a record has the byte of a spent counter.
 pub const SPENT_AT: usize = 2;
+/// Where a record has the byte that tells its layout.
+pub const LAYOUT_AT: usize = 3;
+/// Where a record's window begins: the highest counter opened, then the mask.
+pub const WINDOW_AT: usize = 80;
 
 /// A base key where any will do.
 pub const ANY_KEY: [u8; 16] = [7; 16];
@@ -104,6 +108,19 @@ pub fn set_counter(store: &mut [u8], place: usize, counter: u64) {
 pub fn spend(store: &mut [u8], place: usize) {
     set_counter(store, place, u64::MAX);
     store[place * RECORD + SPENT_AT] = 1;
+}
+
+/// Writes the window of the record at `place`.
+pub fn set_window(store: &mut [u8], place: usize, highest: u64, mask: u64) {
+    let window = [highest.to_be_bytes(), mask.to_be_bytes()].concat();
+    store[place * RECORD + WINDOW_AT..][..16].copy_from_slice(&window);
+}
+
+/// The highest counter opened and the mask in the record at `place`.
+pub fn window(store: &[u8], place: usize) -> (u64, u64) {
+    let number = |at| u64::from_be_bytes(store[at..at + 8].try_into().expect("eight bytes"));
+    let at = place * RECORD + WINDOW_AT;
+    (number(at), number(at + 8))
 }
 
 /// The frame that RFC 9605 defines, of any size, put together from the

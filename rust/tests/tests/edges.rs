@@ -31,9 +31,9 @@ fn seal<'a>(metadata: &'a [u8], plaintext: &'a [u8]) -> Call<'a> {
 }
 
 #[test]
-fn make_takes_80_to_5120_bytes_in_steps_of_80() {
-    for length in 0..=6_000 {
-        let accepted = (80..=5_120).contains(&length) && length % 80 == 0;
+fn make_takes_96_to_6144_bytes_in_steps_of_96() {
+    for length in 0..=7_000 {
+        let accepted = (96..=6_144).contains(&length) && length % 96 == 0;
         let outcome = compare(&vec![0x5a; length], Call::Make);
         assert_eq!(outcome.number == DONE, accepted, "{length} bytes");
         let left = if accepted { 0 } else { 0x5a };

@@ -210,7 +210,7 @@ fn every_short_length() {
             base_key: generator.bytes(32),
         };
         let mut sender = with_key(&made(1), Role::Sending, &key);
-        let receiver = with_key(&made(1), Role::Receiving, &key);
+        let mut receiver = with_key(&made(1), Role::Receiving, &key);
         for length in 0..=300 {
             let plaintext = generator.bytes(length);
             let metadata_length = generator.up_to(80);
@@ -230,8 +230,10 @@ fn every_short_length() {
                 metadata: &metadata,
                 room: length,
             };
-            assert_eq!(done(&receiver, opening).result(), plaintext);
-            sender = sealed.store;
+            let opened = done(&receiver, opening);
+            assert_eq!(opened.result(), plaintext);
+            assert_eq!(compare(&opened.store, opening).number, ALREADY_OPENED);
+            (sender, receiver) = (sealed.store, opened.store);
         }
     }
 }

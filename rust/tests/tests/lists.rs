@@ -1,8 +1,9 @@
 //! Long lists of calls from fixed seeds, each call compared with the reference.
 //!
 //! Two terminals talk to each other; each has its own store and its own list of
-//! calls from one Make to the next. At the end of a list every frame that was
-//! sealed in it is held against the others.
+//! calls from one Make to the next. No frame is opened twice, unless its key was
+//! added again. At the end of a list every frame that was sealed in it is held
+//! against the others.
 
 mod list;
 
@@ -30,7 +31,7 @@ fn two_terminals() {
             first(&mut tally, records),
             Terminal::new(&mut tally, *generator.pick(&RECORDS)),
         ];
-        for _ in 0..3_000 {
+        for _ in 0..3_300 {
             let at = generator.up_to(1);
             let (one, rest) = terminals.split_at_mut(1);
             let (us, peer) = if at == 0 {
@@ -70,6 +71,9 @@ fn any_sound_store() {
     println!("{tally}");
     assert!(tally.answered("Seal", COUNTER_SPENT) > 100);
     assert!(tally.answered("Open", DONE) > 1_000);
+    assert!(tally.answered("Open", ALREADY_OPENED) > 1_000);
+    assert!(tally.answered("Open", TOO_OLD) > 300);
+    assert!(tally.answered("Report", DONE) > 300);
 }
 
 /// Stores damaged at random: bits, bytes, records moved or doubled, lengths.
@@ -89,7 +93,7 @@ fn any_damaged_store() {
         tally.count(call, compare(&store, call).number);
     }
     println!("{tally}");
-    for call in ["Make", "Add", "Remove", "Seal", "Open"] {
+    for call in ["Make", "Add", "Remove", "Seal", "Open", "Report"] {
         assert!(tally.answered(call, STORE_NOT_SOUND) > 200, "{call}");
     }
 }

@@ -38,6 +38,10 @@ fn stores() {
         ]
     };
     assert_eq!(numbers, [STORE_NOT_SOUND; 4]);
+    let mut count = 1;
+    // SAFETY: as above, and `count` is a local.
+    let number = unsafe { sframe_report(null(), 0, 1, &mut count) };
+    assert_eq!((number, count), (STORE_NOT_SOUND, 0));
 
     let mut store = made(1);
     // SAFETY: the store is live and of that length; a length of 0 lends no byte.
@@ -98,10 +102,10 @@ fn metadata_plaintext_and_room() {
         assert_eq!(number, DONE);
         assert_eq!(room[..length], expected);
 
-        let store = with_key(&made(1), Role::Receiving, &key);
+        let mut store = with_key(&made(1), Role::Receiving, &key);
         // SAFETY: as above.
         let number = unsafe {
-            let (store, bytes) = (store.as_ptr(), store.len());
+            let (store, bytes) = (store.as_mut_ptr(), store.len());
             let no_frame = sframe_open(
                 store,
                 bytes,

@@ -127,7 +127,7 @@ fn what_stands_around_a_result_stays() {
 #[test]
 fn frames_in_a_row() {
     let (key, mut store) = sender(SUITES[0]);
-    let receiver = with_key(&made(1), Role::Receiving, &key);
+    let mut receiver = with_key(&made(1), Role::Receiving, &key);
     let mut packet = [0; 200];
     let mut offset = 3;
     for ctr in 0..5 {
@@ -145,7 +145,9 @@ fn frames_in_a_row() {
             metadata: b"",
             room: 7,
         };
-        assert_eq!(done(&receiver, opening).result(), b"picture");
+        let outcome = done(&receiver, opening);
+        assert_eq!(outcome.result(), b"picture");
+        receiver = outcome.store;
         opened += length;
     }
     assert_eq!(packet[..3], [0; 3]);

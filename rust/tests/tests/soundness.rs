@@ -3,8 +3,8 @@
 
 use comparison::number::*;
 use comparison::{
-    compare, done, frame, made, retire, set_counter, spend, with_key, Call, Key, ANY_KEY,
-    COUNTER_AT, SPENT_AT,
+    after, compare, done, frame, made, retire, set_counter, set_window, spend, window, with_key,
+    Call, Key, ANY_KEY, COUNTER_AT, LAYOUT_AT, SPENT_AT, WINDOW_AT,
 };
 use reference::suites::{Suite, SUITES};
 use sframe::{Role, MAX_COUNTER, RECORD};
@@ -13,24 +13,43 @@ use sframe::{Role, MAX_COUNTER, RECORD};
 const SENDING: usize = 0;
 const RECEIVING: usize = 1;
 const RETIRED: usize = 2;
-const EMPTY: usize = 3;
-const RECORDS: usize = 4;
+/// Receiving, and some frames were opened.
+const OPENED: usize = 3;
+const EMPTY: usize = 4;
+const RECORDS: usize = 5;
 
-const KIDS: [u64; 3] = [100, 200, 300];
+/// The key numbers of the first four.
+const KIDS: [u64; 4] = [100, 200, 300, 400];
+
+/// The records that are not empty, and those of them that are not receiving.
+const HELD: [usize; 4] = [SENDING, RECEIVING, RETIRED, OPENED];
+const NOT_RECEIVING: [usize; 2] = [SENDING, RETIRED];
 
 /// One record of each kind.
 fn sound(suite: Suite) -> Vec<u8> {
     let store = with_key(&made(RECORDS), Role::Sending, &Key::any(suite, KIDS[0]));
     let store = with_key(&store, Role::Receiving, &Key::any(suite, KIDS[1]));
-    retire(&store, &Key::any(suite, KIDS[2]))
+    let store = retire(&store, &Key::any(suite, KIDS[2]));
+    let key = Key::any(suite, KIDS[3]);
+    let mut store = with_key(&store, Role::Receiving, &key);
+    for ctr in [10, 12, 9] {
+        let opening = Call::Open {
+            frame: &frame(&key, ctr, b"", b"picture"),
+            metadata: b"",
+            room: 7,
+        };
+        store = after(&store, opening);
+    }
+    assert_eq!(window(&store, OPENED), (12, 0b1101));
+    store
 }
 
 /// Every call that uses a store; each would be done on the sound store.
-fn calls<'a>(opened: &'a [u8]) -> [Call<'a>; 6] {
+fn calls<'a>(opened: &'a [u8]) -> [Call<'a>; 7] {
     let add = |role| Call::Add {
         role,
         suite: 1,
-        kid: 400,
+        kid: 500,
         base_key: &ANY_KEY,
     };
     [
@@ -50,6 +69,7 @@ fn calls<'a>(opened: &'a [u8]) -> [Call<'a>; 6] {
             metadata: b"m",
             room: 7,
         },
+        Call::Report { kid: KIDS[1] },
     ]
 }
 
@@ -128,22 +148,25 @@ fn state_byte() {
                 case.unsound(place, 0, &[state]);
             }
         }
-        for place in [SENDING, RECEIVING, RETIRED] {
+        for place in HELD {
             case.unsound(place, 0, &[0]);
         }
         for state in 1..=3 {
             case.unsound(EMPTY, 0, &[state]);
         }
-        // A key where a retired record has none.
+        // A key where a retired record has none, and a window where a sending
+        // one has none.
         case.unsound(SENDING, 0, &[3]);
         case.unsound(RECEIVING, 0, &[3]);
+        case.unsound(OPENED, 0, &[3]);
+        case.unsound(OPENED, 0, &[1]);
     }
 }
 
 #[test]
 fn suite_byte() {
     for case in Case::each() {
-        for place in [SENDING, RECEIVING, RETIRED] {
+        for place in HELD {
             for suite in (6..=u8::MAX).chain([0]) {
                 case.unsound(place, 1, &[suite]);
             }
@@ -151,12 +174,49 @@ fn suite_byte() {
     }
 }
 
+/// Byte 3 is 1 in every record that is not empty.
 #[test]
-fn bytes_that_are_zero() {
+fn layout_byte() {
     for case in Case::each() {
-        for place in 0..RECORDS {
-            for value in [1, 0x7f, 0x80, 0xff] {
-                case.unsound(place, 3, &[value]);
+        for value in 0..=u8::MAX {
+            for place in HELD {
+                let number = if value == 1 { DONE } else { STORE_NOT_SOUND };
+                case.check(place, LAYOUT_AT, &[value], number);
+            }
+            let number = if value == 0 { DONE } else { STORE_NOT_SOUND };
+            case.check(EMPTY, LAYOUT_AT, &[value], number);
+        }
+    }
+}
+
+/// The stores of an earlier layer have records of 80 bytes, and zero in byte 3.
+/// Where one holds a key it is refused, at whatever place the first one stands.
+#[test]
+fn records_of_80_bytes() {
+    const OLD: usize = 80;
+    for case in Case::each() {
+        let old = |place: usize| {
+            let mut record = case.store[place * RECORD..][..OLD].to_vec();
+            record[LAYOUT_AT] = 0;
+            record
+        };
+        let kinds = [SENDING, RECEIVING, RETIRED].map(old);
+        for records in 1..=64 {
+            let empty = vec![0; records * OLD];
+            let right = empty.len().is_multiple_of(RECORD);
+            let number = if right { KID_UNKNOWN } else { STORE_NOT_SOUND };
+            assert_eq!(compare(&empty, Call::Remove { kid: 0 }).number, number);
+            for first in 0..records {
+                let mut one = empty.clone();
+                one[first * OLD..][..OLD].copy_from_slice(&kinds[first % 3]);
+                let mut all = one.clone();
+                for (place, record) in all.chunks_exact_mut(OLD).enumerate().skip(first) {
+                    record.copy_from_slice(&kinds[place % 3]);
+                }
+                let call = calls(&case.frame)[first % 7];
+                for store in [one, all] {
+                    assert_eq!(compare(&store, call).number, STORE_NOT_SOUND);
+                }
             }
         }
     }
@@ -167,6 +227,7 @@ fn counters() {
     for case in Case::each() {
         for counter in [1, 255, 256, 1 << 40, MAX_COUNTER - 1, MAX_COUNTER] {
             case.unsound(RECEIVING, COUNTER_AT, &counter.to_be_bytes());
+            case.unsound(OPENED, COUNTER_AT, &counter.to_be_bytes());
         }
         for counter in [0, 1, 1 << 40, MAX_COUNTER - 1, MAX_COUNTER] {
             case.check(SENDING, COUNTER_AT, &counter.to_be_bytes(), DONE);
@@ -192,7 +253,7 @@ fn spent_byte() {
                 case.unsound(place, SPENT_AT, &[value]);
             }
         }
-        for place in [SENDING, RETIRED] {
+        for place in NOT_RECEIVING {
             for counter in [0, 1, 1 << 40, MAX_COUNTER - 1] {
                 let mut store = case.store.clone();
                 set_counter(&mut store, place, counter);
@@ -215,8 +276,8 @@ fn spent_byte() {
 #[test]
 fn key_bytes_behind_the_key() {
     for case in Case::each() {
-        for place in [SENDING, RECEIVING] {
-            for at in 32 + case.suite.nk()..RECORD {
+        for place in [SENDING, RECEIVING, OPENED] {
+            for at in 32 + case.suite.nk()..WINDOW_AT {
                 for value in [1, 0x80, 0xff] {
                     case.unsound(place, at, &[value]);
                 }
@@ -231,9 +292,88 @@ fn key_bytes_behind_the_key() {
 #[test]
 fn salt_and_key_of_a_retired_record() {
     for case in Case::each() {
-        for at in 20..RECORD {
+        for at in 20..WINDOW_AT {
             for value in [1, 0x80, 0xff] {
                 case.unsound(RETIRED, at, &[value]);
+            }
+        }
+    }
+}
+
+/// What a receiving record's window may be: no bit and no highest counter, or
+/// bit 0 and no bit above the highest counter.
+#[test]
+fn windows() {
+    const ALL: u64 = u64::MAX;
+    for case in Case::each() {
+        let bytes = |highest: u64, mask: u64| [highest.to_be_bytes(), mask.to_be_bytes()].concat();
+        for (highest, mask) in [
+            (0, 0),
+            (0, 0b1),
+            (1, 0b11),
+            (2, 0b111),
+            (2, 0b101),
+            (62, ALL >> 1),
+            (63, ALL),
+            (64, ALL),
+            (1 << 40, 1 << 63 | 1),
+            (ALL, 1),
+            (ALL, ALL),
+        ] {
+            case.check(OPENED, WINDOW_AT, &bytes(highest, mask), DONE);
+        }
+        for (highest, mask) in [
+            (1, 0),
+            (63, 0),
+            (64, 0),
+            (ALL, 0),
+            (0, 0b10),
+            (12, 0b10),
+            (ALL, ALL - 1),
+            (100, 1 << 63),
+            (0, 0b11),
+            (2, 0b1001),
+            (62, ALL),
+            (62, 1 << 63 | 1),
+            (0, ALL),
+        ] {
+            case.unsound(RECEIVING, WINDOW_AT, &bytes(highest, mask));
+            case.unsound(OPENED, WINDOW_AT, &bytes(highest, mask));
+        }
+    }
+}
+
+/// Each bit beside bit 0, at each highest counter from below it to above it.
+#[test]
+fn bits_above_the_highest_counter() {
+    let case = Case::each().next().unwrap();
+    for highest in 0..=70 {
+        for bit in 1..64 {
+            let mut store = case.store.clone();
+            set_window(&mut store, OPENED, highest, 1 << bit | 1);
+            let outcome = compare(&store, Call::Report { kid: KIDS[3] });
+            if bit <= highest {
+                assert_eq!((outcome.number, outcome.count), (DONE, 2));
+            } else {
+                assert_eq!(outcome.number, STORE_NOT_SOUND, "{bit} at {highest}");
+            }
+        }
+    }
+}
+
+/// Only a receiving record has a window.
+#[test]
+fn windows_of_other_records() {
+    for case in Case::each() {
+        for place in NOT_RECEIVING.into_iter().chain([EMPTY]) {
+            for at in WINDOW_AT..RECORD {
+                for value in [1, 0x80, 0xff] {
+                    case.unsound(place, at, &[value]);
+                }
+            }
+            for (highest, mask) in [(0u64, 1u64), (5, 1), (12, 0b1101), (u64::MAX, u64::MAX)] {
+                let bytes = [highest.to_be_bytes(), mask.to_be_bytes()].concat();
+                case.unsound(place, WINDOW_AT, &bytes);
             }
         }
     }
@@ -253,7 +393,7 @@ fn bytes_of_an_empty_record() {
 #[test]
 fn key_numbers_shared() {
     for case in Case::each() {
-        for place in [SENDING, RECEIVING, RETIRED] {
+        for place in HELD {
             for kid in KIDS {
                 if kid != KIDS[place] {
                     case.unsound(place, 4, &kid.to_be_bytes());

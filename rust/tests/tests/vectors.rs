@@ -59,7 +59,8 @@ fn published_frames() {
     }
 }
 
-/// The only record of `store` holds this key and this salt.
+/// The only record of `store` holds this key and this salt, and has opened
+/// nothing.
 #[track_caller]
 fn check_key(store: &[u8], key: &[u8], salt: &[u8]) {
     let unused = vec![0; RECORD - 32 - key.len()];

@@ -7,7 +7,9 @@ use Prim.Native.Nat.{ℕ, _+_, _-_}
 use lib.Dec.{leb, eqb}
 use lib.ListN.{length, getD, take, drop, replicate}
 use Rattle.octets.specs.Octets.{number, pick, both}
-use Rattle.key_record.specs.Layout.{markAt, suiteAt, spentAt, reservedAt, counterAt, saltAt, keyAt, sendingMark, receivingMark, retiredMark, row}
+use Rattle.window.specs.Window.{fresh, fits as inOrder}
+use Rattle.window.specs.declared.Window.{Window}
+use Rattle.key_record.specs.Layout.{markAt, suiteAt, spentAt, versionAt, counterAt, saltAt, keyAt, sendingMark, receivingMark, retiredMark, layoutVersion, windowIn, row}
 use Rattle.key_record.specs.Record.{ceiling}
 use Rattle.key_record.specs.Suites.{isSuite, keySize}
 
@@ -25,18 +27,24 @@ unfoldable pub counterFits : (mark spent counter : ℕ) → Bool
 counterFits mark spent counter =
     pick (eqb mark receivingMark) (both (eqb spent 0) (eqb counter 0)) (pick (eqb spent 0) true (both (eqb spent 1) (eqb counter lastCounter)))
 
--- Where the zeros begin that end a record, by mark and suite.
+-- Where the zeros begin that end at the window, by mark and suite.
 unfoldable pub zerosFrom : ℕ → ℕ → ℕ
 zerosFrom mark suite = pick (eqb mark retiredMark) saltAt (keyAt + keySize suite)
 
--- The suite is one, the reserved byte is zero, the next counter's two fields fit.
+-- A window, by mark: in order where a record is for receiving; else its two fields are zero.
+unfoldable pub windowFits : (mark : ℕ) (w : Window) → Bool
+windowFits mark w = pick (eqb mark receivingMark) (inOrder w) (both (eqb (w .highest) 0) (eqb (w .mask) 0))
+
+-- The suite is one, the version is this layout's, the next counter's two fields fit, the window fits.
 unfoldable pub fieldsFit : List ℕ → Bool
 fieldsFit l =
-    both (isSuite (getD l suiteAt 0)) (both (eqb (getD l reservedAt 0) 0) (counterFits (getD l markAt 0) (getD l spentAt 0) (number 8 (drop counterAt l))))
+    both (isSuite (getD l suiteAt 0))
+    (both (eqb (getD l versionAt 0) layoutVersion)
+    (both (counterFits (getD l markAt 0) (getD l spentAt 0) (number 8 (drop counterAt l))) (windowFits (getD l markAt 0) (windowIn l))))
 
--- A new record's bytes: its counter is 0.
+-- A new record's bytes: its counter is 0, and nothing was opened with it.
 abbrev pub newRow : ℕ → ℕ → ℕ → List ℕ → List ℕ → List ℕ
-newRow mark suite kid salt key = row mark suite kid 0 salt key
+newRow mark suite kid salt key = row mark suite kid 0 salt key fresh
 
 -- A sending record's bytes once it is retired: mark, then what stood before the salt, then zeros.
 unfoldable pub retiredRow : List ℕ → List ℕ

@@ -1,4 +1,5 @@
-use mathlib.Core.Path.{refl, sym, _∙_, ap}
+use mathlib.Core.Path.{_≡_, refl, sym, _∙_, ap}
+use mathlib.Core.Bool.{true}
 use Prim.Native.Nat.{ℕ, _-_}
 use lib.ListN.{length}
 use native.Mathlib.Omega.{arith}
@@ -7,7 +8,8 @@ use Rattle.answers.specs.Limits.{tooLong}
 use Rattle.answers.proofs.Basics.{told-false, told-true}
 use Rattle.answers.proofs.Limits.{not-long}
 use Rattle.key_record.specs.Layout.{decode}
-use Rattle.open_frame.proofs.OpenSteps.{role-refused, frame-short, too-long-refused, room-refused, room-told, tag-refused, frame-opened}
+use Rattle.key_record.specs.Record.{isReceiving}
+use Rattle.open_frame.proofs.OpenSteps.{role-refused, frame-short, too-long-refused, room-refused, room-told, new-counter, counter-refused, tag-refused, frame-opened}
 use Rattle.open_frame.proofs.open_with.Statement.{statement}
 use Rattle.open_frame.proofs.open_with.Tie as tie
 
@@ -28,9 +30,6 @@ to-start-from-tag-size c = c .before .before .before .before .before .before .be
 abbrev to-else1-from-refused2 : tie.After-refused2 → tie.Else1
 to-else1-from-refused2 c = c .before .before .before .before
 
-abbrev to-else1-from-too-long : tie.After-too-long → tie.Else1
-to-else1-from-too-long c = c .before .before .before .before
-
 abbrev to-tag-size-from-refused3 : tie.After-refused3 → tie.After-tag-size
 to-tag-size-from-refused3 c = c .before .before .before .before
 
@@ -40,23 +39,26 @@ to-suite-of c = c .before .before .before .before
 abbrev to-tag-size-from-room-for : tie.After-room-for → tie.After-tag-size
 to-tag-size-from-room-for c = c .before .before .before .before
 
-abbrev to-too-long : tie.After-length → tie.After-too-long
-to-too-long c = c .before .before .before .before
-
 abbrev to-else3 : tie.After-refused4 → tie.Else3
 to-else3 c = c .before .before .before .before
 
-abbrev to-room-for-from-decrypt-with-arg : tie.After-decrypt-with-arg → tie.After-room-for
-to-room-for-from-decrypt-with-arg c = c .before .before .before .before
+abbrev to-room-for : tie.After-known-told → tie.After-room-for
+to-room-for c = c .before .before .before
 
-abbrev to-room-for-from-decrypt-with : tie.After-decrypt-with → tie.After-room-for
-to-room-for-from-decrypt-with c = c .before .before .before .before .before
+abbrev to-known-told-from-refused5 : tie.After-refused5 → tie.After-known-told
+to-known-told-from-refused5 c = c .before .before .before
 
-abbrev to-decrypt-with : tie.After-refused5 → tie.After-decrypt-with
-to-decrypt-with c = c .before .before .before .before
+abbrev to-known-told-from-decrypt-with-arg : tie.After-decrypt-with-arg → tie.After-known-told
+to-known-told-from-decrypt-with-arg c = c .before .before .before
 
-abbrev to-length : tie.Else4 → tie.After-length
-to-length c = c .before .before .before .before .before .before
+abbrev to-judge-counter : tie.After-decrypt-with → tie.After-judge-counter
+to-judge-counter c = c .before .before .before
+
+abbrev to-decrypt-with-from-refused6 : tie.After-refused6 → tie.After-decrypt-with
+to-decrypt-with-from-refused6 c = c .before .before .before .before
+
+abbrev to-decrypt-with-from-else5 : tie.Else5 → tie.After-decrypt-with
+to-decrypt-with-from-else5 c = c .before .before .before
 
 -- ----
 
@@ -89,28 +91,52 @@ returns-4 c =
     let at-start = to-start-from-suite-of at-suite-of in
     let q = room-refused (decode (at-start .args .row .now)) (at-start .args .metadata .now) (at-start .args .frame .now) (at-start .args .room .now) (at-start .args .kid) (at-start .args .ctr) (at-start .args .n) (told-true _ _ (at-suite-of .before .before .is-receiving .ensures) (at-suite-of .before .if1 .left)) (at-suite-of .suite-of .result) (at-suite-of .suite-of .ensures) (omega (arith, at-else3 .before .before .if2 .left, at-else3 .before .before .before .tag-size .ensures)) (sym (at-else3 .if3 .left) ∙ at-else3 .before .too-long .ensures ∙ ap (λ (x : ℕ). tooLong (length (at-start .args .frame .now) - at-start .args .n - x) (length (at-start .args .metadata .now))) (at-else3 .before .before .before .tag-size .ensures)) (omega (arith, room-told _ _ _ (c .before .before .before .room-for .ensures) .0 (c .before .enum-told .given .1), at-else3 .before .before .before .tag-size .ensures)) in ((c .refused4 .ensures .0 ∙ q .0 .0, c .refused4 .ensures .1 ∙ q .0 .1), q .1)
 
-decrypt-with-requires : tie.Need-decrypt-with-requires
-decrypt-with-requires c κs =
-    let at-room-for = to-room-for-from-decrypt-with-arg c in
-    let at-tag-size = to-tag-size-from-room-for at-room-for in
-    let at-start = to-start-from-tag-size at-tag-size in
-    ((at-start .pre .0, told-true _ _ (at-tag-size .before .before .before .is-receiving .ensures) (at-tag-size .before .before .if1 .left), at-tag-size .before .suite-of .ensures), ((at-start .pre .2, omega (arith, at-start .pre .3, at-room-for .before .before .before .if2 .left, at-tag-size .tag-size .ensures)), ((not-long _ _ (sym (at-room-for .before .before .too-long .ensures) ∙ at-room-for .before .if3 .left)) .1, omega (arith, (not-long _ _ (sym (at-room-for .before .before .too-long .ensures) ∙ at-room-for .before .if3 .left)) .0, at-tag-size .tag-size .ensures), omega (arith, (room-told _ _ _ (at-room-for .room-for .ensures) .1 _ (c .before .before .length .given .1)) .1, at-tag-size .tag-size .ensures))))
+-- what is known once the room is judged
+module _ (c : tie.After-known-told) where
+  gets : isReceiving (decode (to-start-from-tag-size (to-tag-size-from-room-for (to-room-for c)) .args .row .now)) ≡ true
+  gets = let t = to-tag-size-from-room-for (to-room-for c) in told-true _ _ (t .before .before .before .is-receiving .ensures) (t .before .before .if1 .left)
+
+judge-counter-requires : tie.Need-judge-counter-requires
+judge-counter-requires c κs =
+    let at-tag-size = to-tag-size-from-room-for (to-room-for c) in
+    (to-start-from-tag-size at-tag-size .pre .0 .0, gets c)
 
 returns-5 : tie.Need-returns-5
 returns-5 c =
-    let at-decrypt-with = to-decrypt-with c in
-    let at-room-for = to-room-for-from-decrypt-with at-decrypt-with in
+    let at-known-told = to-known-told-from-refused5 c in
+    let at-room-for = to-room-for at-known-told in
     let at-tag-size = to-tag-size-from-room-for at-room-for in
     let at-start = to-start-from-tag-size at-tag-size in
-    let q = tag-refused (decode (at-start .args .row .now)) (at-start .args .metadata .now) (at-start .args .frame .now) (at-start .args .room .now) (at-start .args .kid) (at-start .args .ctr) (at-start .args .n) (told-true _ _ (at-tag-size .before .before .before .is-receiving .ensures) (at-tag-size .before .before .if1 .left)) (at-tag-size .before .suite-of .result) (at-tag-size .before .suite-of .ensures) (omega (arith, at-room-for .before .before .before .if2 .left, at-tag-size .tag-size .ensures)) (sym (at-room-for .before .if3 .left) ∙ at-room-for .before .before .too-long .ensures ∙ ap (λ (x : ℕ). tooLong (length (at-start .args .frame .now) - at-start .args .n - x) (length (at-start .args .metadata .now))) (at-tag-size .tag-size .ensures)) (omega (arith, (room-told _ _ _ (at-room-for .room-for .ensures) .1 _ (at-decrypt-with .before .before .before .length .given .1)) .1, at-tag-size .tag-size .ensures)) _ refl _ _ (at-decrypt-with .decrypt-with .ensures .0) (c .before .if4 .taken) (at-decrypt-with .decrypt-with .ensures .1) in ((c .refused5 .ensures .0 ∙ q .0 .0, c .refused5 .ensures .1 ∙ q .0 .1), q .1)
+    let q = counter-refused (decode (at-start .args .row .now)) (at-start .args .metadata .now) (at-start .args .frame .now) (at-start .args .room .now) (at-start .args .kid) (at-start .args .ctr) (at-start .args .n) (gets at-known-told) (at-tag-size .before .suite-of .result) (at-tag-size .before .suite-of .ensures) (omega (arith, at-room-for .before .before .before .if2 .left, at-tag-size .tag-size .ensures)) (sym (at-room-for .before .if3 .left) ∙ at-room-for .before .before .too-long .ensures ∙ ap (λ (x : ℕ). tooLong (length (at-start .args .frame .now) - at-start .args .n - x) (length (at-start .args .metadata .now))) (at-tag-size .tag-size .ensures)) (omega (arith, (room-told _ _ _ (at-room-for .room-for .ensures) .1 _ (at-known-told .before .length .given .1)) .1, at-tag-size .tag-size .ensures)) _ (c .before .before .judge-counter .ensures) (c .before .if4 .taken) in ((c .refused5 .ensures .0 ∙ q .0 .0, c .refused5 .ensures .1 ∙ q .0 .1), q .1)
+
+decrypt-with-requires : tie.Need-decrypt-with-requires
+decrypt-with-requires c κs =
+    let at-known-told = to-known-told-from-decrypt-with-arg c in
+    let at-room-for = to-room-for at-known-told in
+    let at-tag-size = to-tag-size-from-room-for at-room-for in
+    let at-start = to-start-from-tag-size at-tag-size in
+    ((at-start .pre .0, gets at-known-told, at-tag-size .before .suite-of .ensures), ((at-start .pre .2, omega (arith, at-start .pre .3, at-room-for .before .before .before .if2 .left, at-tag-size .tag-size .ensures)), ((not-long _ _ (sym (at-room-for .before .before .too-long .ensures) ∙ at-room-for .before .if3 .left)) .1, omega (arith, (not-long _ _ (sym (at-room-for .before .before .too-long .ensures) ∙ at-room-for .before .if3 .left)) .0, at-tag-size .tag-size .ensures), omega (arith, (room-told _ _ _ (at-room-for .room-for .ensures) .1 _ (at-known-told .before .length .given .1)) .1, at-tag-size .tag-size .ensures))))
 
 returns-6 : tie.Need-returns-6
 returns-6 c =
-    let at-length = to-length c in
-    let at-too-long = to-too-long at-length in
-    let at-else1 = to-else1-from-too-long at-too-long in
-    let at-start = to-start-from-else1 at-else1 in
-    let q = frame-opened (decode (at-start .args .row .now)) (at-start .args .metadata .now) (at-start .args .frame .now) (at-start .args .room .now) (at-start .args .kid) (at-start .args .ctr) (at-start .args .n) (told-true _ _ (at-else1 .before .is-receiving .ensures) (at-else1 .if1 .left)) (at-too-long .before .before .before .suite-of .result) (at-too-long .before .before .before .suite-of .ensures) (omega (arith, at-too-long .before .if2 .left, at-too-long .before .before .tag-size .ensures)) (sym (at-length .before .before .before .if3 .left) ∙ at-too-long .too-long .ensures ∙ ap (λ (x : ℕ). tooLong (length (at-start .args .frame .now) - at-start .args .n - x) (length (at-start .args .metadata .now))) (at-too-long .before .before .tag-size .ensures)) (omega (arith, (room-told _ _ _ (at-length .before .before .room-for .ensures) .1 _ (at-length .length .given .1)) .1, at-too-long .before .before .tag-size .ensures)) _ refl _ _ (c .before .before .before .decrypt-with .ensures .0) (c .if4 .left) (c .before .before .before .decrypt-with .ensures .1) in ((q .0 .0, (room-told _ _ _ (at-length .before .before .room-for .ensures) .1 _ (at-length .length .given .1)) .0 ∙ ap (λ (x : ℕ). length (at-start .args .frame .now) - at-start .args .n - x) (at-too-long .before .before .tag-size .ensures) ∙ q .0 .1), q .1)
+    let at-decrypt-with = to-decrypt-with-from-refused6 c in
+    let at-judge-counter = to-judge-counter at-decrypt-with in
+    let at-known-told = at-judge-counter .before in
+    let at-room-for = to-room-for at-known-told in
+    let at-tag-size = to-tag-size-from-room-for at-room-for in
+    let at-start = to-start-from-tag-size at-tag-size in
+    let q = tag-refused (decode (at-start .args .row .now)) (at-start .args .metadata .now) (at-start .args .frame .now) (at-start .args .room .now) (at-start .args .kid) (at-start .args .ctr) (at-start .args .n) (gets at-known-told) (at-tag-size .before .suite-of .result) (at-tag-size .before .suite-of .ensures) (omega (arith, at-room-for .before .before .before .if2 .left, at-tag-size .tag-size .ensures)) (sym (at-room-for .before .if3 .left) ∙ at-room-for .before .before .too-long .ensures ∙ ap (λ (x : ℕ). tooLong (length (at-start .args .frame .now) - at-start .args .n - x) (length (at-start .args .metadata .now))) (at-tag-size .tag-size .ensures)) (omega (arith, (room-told _ _ _ (at-room-for .room-for .ensures) .1 _ (at-known-told .before .length .given .1)) .1, at-tag-size .tag-size .ensures)) (new-counter _ _ _ (at-judge-counter .judge-counter .ensures) (at-decrypt-with .before .before .if4 .left)) _ refl _ _ (at-decrypt-with .decrypt-with .ensures .0) (c .before .if5 .taken) (at-decrypt-with .decrypt-with .ensures .1) in ((c .refused6 .ensures .0 ∙ q .0 .0, c .refused6 .ensures .1 ∙ q .0 .1), q .1)
+
+returns-7 : tie.Need-returns-7
+returns-7 c =
+    let at-decrypt-with = to-decrypt-with-from-else5 c in
+    let at-judge-counter = to-judge-counter at-decrypt-with in
+    let at-known-told = at-judge-counter .before in
+    let at-room-for = to-room-for at-known-told in
+    let at-tag-size = to-tag-size-from-room-for at-room-for in
+    let at-start = to-start-from-tag-size at-tag-size in
+    let room = room-told _ _ _ (at-room-for .room-for .ensures) .1 _ (at-known-told .before .length .given .1) in
+    let q = frame-opened (decode (at-start .args .row .now)) (at-start .args .metadata .now) (at-start .args .frame .now) (at-start .args .room .now) (at-start .args .kid) (at-start .args .ctr) (at-start .args .n) (gets at-known-told) (at-tag-size .before .suite-of .result) (at-tag-size .before .suite-of .ensures) (omega (arith, at-room-for .before .before .before .if2 .left, at-tag-size .tag-size .ensures)) (sym (at-room-for .before .if3 .left) ∙ at-room-for .before .before .too-long .ensures ∙ ap (λ (x : ℕ). tooLong (length (at-start .args .frame .now) - at-start .args .n - x) (length (at-start .args .metadata .now))) (at-tag-size .tag-size .ensures)) (omega (arith, room .1, at-tag-size .tag-size .ensures)) (new-counter _ _ _ (at-judge-counter .judge-counter .ensures) (at-decrypt-with .before .before .if4 .left)) _ refl _ _ (at-decrypt-with .decrypt-with .ensures .0) (c .if5 .left) (at-decrypt-with .decrypt-with .ensures .1) in ((q .0 .0, room .0 ∙ ap (λ (x : ℕ). length (at-start .args .frame .now) - at-start .args .n - x) (at-tag-size .tag-size .ensures) ∙ q .0 .1), q .1)
 
 pub open-with-spec : {M : Type 1} → statement M
 open-with-spec =
@@ -132,9 +158,12 @@ open-with-spec =
     (λ c. search needs)
     (λ c κs. search needs)
     returns-4
+    judge-counter-requires
+    (λ c κs. search needs)
+    returns-5
     decrypt-with-requires
     (λ c κs. search needs)
     (λ c. search needs)
-    returns-5
+    returns-6
     (λ c. search needs)
-    returns-6)
+    returns-7)

@@ -1,7 +1,7 @@
 use native.Mathlib.Omega.{arith}
 use borrow.Author.Needs.{needs}
 use Rattle.window.proofs.Laws.{near}
-use Rattle.window.proofs.Steps.{newer-room, opened-newer, older-room, opened-older}
+use Rattle.window.proofs.Steps.{newer-adds, opened-newer, older-adds, opened-older}
 use Rattle.window.proofs.open.Statement.{statement}
 use Rattle.window.proofs.open.Tie as tie
 
@@ -18,7 +18,7 @@ to-start-from-known4 c = c .before .before .before .before .before
 add-t7 : tie.Need-add-t7
 add-t7 c =
     let s = to-start-from-shifted c in
-    omega (arith, newer-room (s .args .w) (s .args .ctr) (c .before .before .if1 .taken) _ (c .shifted .ensures))
+    omega (arith, newer-adds (s .args .w) (s .args .ctr) (c .before .before .if1 .taken) _ (c .shifted .ensures))
 
 returns : tie.Need-returns
 returns c =
@@ -29,7 +29,7 @@ add-mask : tie.Need-add-mask
 add-mask c =
     let s = to-start-from-known4 c in
     let i = s .pre in
-    omega (arith, older-room (s .args .w) (s .args .ctr) (i .0) (i .1) (i .2) (c .before .before .before .if1 .left) (omega (arith, c .struct-known4 .given)) _ (c .before .shifted2 .ensures))
+    omega (arith, older-adds (s .args .w) (s .args .ctr) (i .0) (i .1) (i .2) (c .before .before .before .if1 .left) (omega (arith, c .struct-known4 .given)) _ (c .before .shifted2 .ensures))
 
 returns-2 : tie.Need-returns-2
 returns-2 c =

@@ -104,13 +104,12 @@ pub fn seal_at(
 }
 
 /// Opens `frame` to its plaintext at the front of `out`.
-pub fn open(store: &[u8], frame: &[u8], metadata: &[u8], out: &mut [u8]) -> Written {
+pub fn open(store: &mut [u8], frame: &[u8], metadata: &[u8], out: &mut [u8]) -> Written {
     let mut length = UNSET as usize;
-    // SAFETY: the slices are live and of the lengths given; `out` is borrowed for
-    // writing, so it overlaps nothing; `length` is a local of its own.
+    // SAFETY: as in `seal`.
     let number = unsafe {
         ffi::sframe_open(
-            store.as_ptr(),
+            store.as_mut_ptr(),
             store.len(),
             frame.as_ptr(),
             frame.len(),
@@ -122,4 +121,22 @@ pub fn open(store: &[u8], frame: &[u8], metadata: &[u8], out: &mut [u8]) -> Writ
         )
     };
     Written { number, length }
+}
+
+/// What a report answers.
+#[derive(Clone, Copy, Debug, PartialEq, Eq)]
+pub struct Report {
+    /// 0, or the refusal's number.
+    pub number: u32,
+    /// How many of the last 64 counters were opened, 0 when refused.
+    pub count: u64,
+}
+
+/// How many of the last 64 counters a receiving key has opened.
+pub fn report(store: &[u8], kid: u64) -> Report {
+    let mut count = UNSET;
+    // SAFETY: `store` is a live slice of that length that is only read, and
+    // `count` is a local of its own.
+    let number = unsafe { ffi::sframe_report(store.as_ptr(), store.len(), kid, &mut count) };
+    Report { number, count }
 }

@@ -37,7 +37,11 @@ fn store_not_sound() {
     folder.write("damaged", &damaged);
     folder.write("long", &vec![0; 100_000]);
     folder.write("empty", b"");
-    for store in ["damaged", "long", "empty"] {
+    // A store of an earlier version: records of 80 bytes, with 0 in byte 3.
+    let mut old = damaged[..80].to_vec();
+    old[2..4].fill(0);
+    folder.write("old", &[old, vec![0; 400]].concat());
+    for store in ["damaged", "long", "empty", "old"] {
         // Makes the lock's file, which stays.
         folder.run(&format!("remove {store} --kid 200"));
         for line in [
@@ -46,6 +50,7 @@ fn store_not_sound() {
             format!("add {store} --sending --kid 1 --suite 9 --key key"),
             format!("seal {store} --kid 200 --in picture"),
             format!("open {store} --in frame"),
+            format!("report {store} --kid 200"),
         ] {
             refused(&folder, &line, Refusal::StoreNotSound);
         }
@@ -118,6 +123,8 @@ fn unknown_numbers_and_roles() {
         Refusal::WrongRole,
     );
     refused(&folder, "open ward --in frame", Refusal::WrongRole);
+    refused(&folder, "report ward --kid 200", Refusal::WrongRole);
+    refused(&folder, "report doctor --kid 201", Refusal::KidUnknown);
     folder.done("remove ward --kid 200");
     refused(&folder, "remove ward --kid 200", Refusal::WrongRole);
     refused(
@@ -229,6 +236,33 @@ fn frames_refused() {
     assert!(!folder.path("opened").exists());
     let open = "open doctor --in frame";
     assert_eq!(done(open, folder.run(open)), b"a picture");
+}
+
+/// No frame is opened twice; one that was opened is refused as such, changed or
+/// not, and so is one that lies 64 counters behind.
+#[test]
+fn frames_that_come_again() {
+    let folder = folder("refused-14-15");
+    let mut forged = folder.read("frame");
+    *forged.last_mut().unwrap() ^= 1;
+    folder.write("forged", &forged);
+    refused(&folder, "open doctor --in forged", Refusal::TagDiffers);
+    assert_eq!(folder.done("open doctor --in frame"), b"a picture");
+    for frame in ["frame", "forged"] {
+        let open = format!("open doctor --in {frame} --out opened");
+        refused(&folder, &open, Refusal::AlreadyOpened);
+        assert!(!folder.path("opened").exists());
+    }
+
+    let mut store = folder.read("ward");
+    store[12..20].copy_from_slice(&64u64.to_be_bytes());
+    folder.write("ward", &store);
+    folder.done("seal ward --kid 200 --in picture --out later");
+    assert_eq!(folder.done("open doctor --in later"), b"a picture");
+    for frame in ["frame", "forged"] {
+        let open = format!("open doctor --in {frame} --out opened");
+        refused(&folder, &open, Refusal::TooOld);
+    }
 }
 
 #[test]

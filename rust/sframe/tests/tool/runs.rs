@@ -156,16 +156,27 @@ fn list_shows_everything_but_keys() {
         .lines()
         .map(|line| line.split_whitespace().collect())
         .collect();
-    assert_eq!(
-        rows[1],
-        ["sending", "4", "AES_128_GCM_SHA256_128", "200", "1"]
-    );
-    let retired = "18446744073709551615";
-    assert_eq!(
-        rows[2],
-        ["retired", "1", "AES_128_CTR_HMAC_SHA256_80", retired, "0"]
-    );
+    let suite = ["4", "AES_128_GCM_SHA256_128"].join(" ");
+    assert_eq!(rows[1].join(" "), format!("sending {suite} 200 1 - -"));
+    let retired = "retired 1 AES_128_CTR_HMAC_SHA256_80 18446744073709551615 0 - -";
+    assert_eq!(rows[2].join(" "), retired);
     assert_eq!(rows[3].join(" "), "2 of 2 records in use");
+
+    // A receiving key: nothing opened, then the second and the third frame.
+    let row = || {
+        let list = String::from_utf8(folder.done("list doctor")).unwrap();
+        let row = list.lines().nth(1).unwrap().split_whitespace();
+        row.collect::<Vec<_>>().join(" ")
+    };
+    assert_eq!(row(), format!("receiving {suite} 200 - - -"));
+    for _ in 0..2 {
+        folder.done("seal ward --kid 200 --in nothing --out frame");
+        folder.done("open doctor --in frame");
+    }
+    let window = "0000000000000003";
+    assert_eq!(row(), format!("receiving {suite} 200 - 2 {window}"));
+    let report = folder.done("report doctor --kid 200");
+    assert_eq!(report, b"2 of the last 64 counters opened\n");
 
     let empty = Folder::new("list-empty");
     empty.done("make store --keys 64");
@@ -178,7 +189,7 @@ fn help_names_every_command() {
     let folder = Folder::new("help");
     let help = String::from_utf8(folder.done("--help")).unwrap();
     for command in [
-        "make", "add", "remove", "list", "seal", "open", "header", "ratchet", "kid",
+        "make", "add", "remove", "list", "seal", "open", "report", "header", "ratchet", "kid",
     ] {
         assert!(help.contains(&format!("sframe {command} ")), "{command}");
     }
@@ -316,8 +327,13 @@ fn a_store_with_hard_links() {
     assert_eq!(folder.read("ward"), before);
     assert_eq!(folder.read("b"), before);
 
-    // Nor is a result written to the store under its other name.
+    // Nor is a frame opened there: it could be opened again under the other name.
+    // Nor is a result written to the store under that name.
     let before = folder.read("doctor");
+    for store in ["doctor", "c"] {
+        let message = folder.fails(&format!("open {store} --in frame"), 74);
+        assert!(message.contains("hard links"), "{message}");
+    }
     folder.fails("open doctor --in frame --out c", 64);
     assert_eq!(folder.read("doctor"), before);
 

@@ -1,15 +1,16 @@
 //! Several runs at once, and runs that are killed: every frame that was given
-//! out has a counter of its own.
+//! out has a counter of its own, and no picture is given out twice.
 
 use super::folder::Folder;
-use sframe::{read_header, Metadata, StoreView};
+use sframe::{read_header, Metadata, Refusal, Store, StoreView};
 use std::collections::BTreeSet;
 use std::thread;
 use std::time::Instant;
 
-/// The counter of a frame that opens at the other end.
+/// The counter of a frame that opens at the other end, where nothing was opened
+/// before.
 fn counter(doctor: &[u8], frame: &[u8]) -> u64 {
-    let plaintext = StoreView::over(doctor).open_to_vec(frame, Metadata::NONE);
+    let plaintext = Store::over(&mut doctor.to_vec()).open_to_vec(frame, Metadata::NONE);
     assert_eq!(plaintext.as_deref(), Ok(&b"a picture"[..]));
     read_header(frame).expect("a header").ctr.0
 }
@@ -91,4 +92,91 @@ fn killed_at_any_time() {
     // No lock outlasts its run.
     let frame = folder.done("seal ward --kid 200 --in picture");
     assert!(last < Some(counter(&doctor, &frame)));
+}
+
+/// Several runs open the same frames at once: each is given out by one of them.
+#[test]
+fn many_openings_at_once() {
+    const THREADS: usize = 8;
+    const FRAMES: usize = 6;
+    let folder = Folder::with_stores("opening", 4);
+    folder.write("picture", b"a picture");
+    for frame in 0..FRAMES {
+        folder.done(&format!("seal ward --kid 200 --in picture --out {frame}"));
+    }
+    let opened: usize = thread::scope(|scope| {
+        let threads: Vec<_> = (0..THREADS)
+            .map(|thread| {
+                let folder = &folder;
+                scope.spawn(move || {
+                    let order = (0..FRAMES).map(|i| (i + thread) % FRAMES);
+                    order.filter(|frame| given_out(folder, *frame)).count()
+                })
+            })
+            .collect();
+        threads.into_iter().map(|t| t.join().unwrap()).sum()
+    });
+    assert_eq!(opened, FRAMES);
+    let report = folder.done("report doctor --kid 200");
+    assert_eq!(report, b"6 of the last 64 counters opened\n");
+}
+
+/// Whether a run gives the picture of a frame out; else it was opened before.
+fn given_out(folder: &Folder, frame: usize) -> bool {
+    let output = folder.run(&format!("open doctor --in {frame}"));
+    match output.status.code() {
+        Some(0) => assert_eq!(output.stdout, b"a picture"),
+        status => {
+            assert_eq!(status, Some(Refusal::AlreadyOpened.number() as i32));
+            assert_eq!(output.stdout, b"");
+        }
+    }
+    output.status.success()
+}
+
+/// Runs that open are killed at any time, as above: what was given out is not
+/// given out again, and the store stays sound.
+#[test]
+fn openings_killed_at_any_time() {
+    const RUNS: u32 = 60;
+    let folder = Folder::with_stores("opening-killed", 4);
+    folder.write("picture", b"a picture");
+    folder.done("seal ward --kid 200 --in picture --out 0");
+    let start = Instant::now();
+    assert!(given_out(&folder, 0));
+    let mut longest = 2 * start.elapsed();
+
+    let (mut shown, mut killed) = (0, 0);
+    for _sweep in 0..6 {
+        for run in 0..RUNS {
+            folder.done("seal ward --kid 200 --in picture --out 0");
+            let mut child = folder
+                .command("open doctor --in 0")
+                .spawn()
+                .expect("the tool starts");
+            thread::sleep(longest * run / RUNS);
+            // It may have ended by itself.
+            let _ = child.kill();
+            let output = child.wait_with_output().expect("the tool ends");
+            let store = folder.read("doctor");
+            assert_eq!(StoreView::over(&store).check(), Ok(()));
+            if output.stdout.is_empty() {
+                killed += 1;
+                // The picture may be lost, and is given out once at most.
+                given_out(&folder, 0);
+            } else {
+                assert_eq!(output.stdout, b"a picture");
+                shown += 1;
+            }
+            assert!(!given_out(&folder, 0));
+        }
+        if shown > 0 && killed > 0 {
+            break;
+        }
+        longest *= 2;
+    }
+    assert!(
+        shown > 0 && killed > 0,
+        "{shown} pictures given out, {killed} runs without one"
+    );
 }

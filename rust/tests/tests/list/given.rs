@@ -3,7 +3,7 @@
 
 use comparison::Call;
 use reference::aead::Aead;
-use reference::header::{read_header, write_header};
+use reference::header::write_header;
 use reference::record::Record;
 use reference::suites::{nonce, SUITES};
 use sframe::{Role, RECORD};
@@ -31,6 +31,9 @@ pub enum Given {
         frame: Vec<u8>,
         metadata: Vec<u8>,
         room: usize,
+    },
+    Report {
+        kid: u64,
     },
 }
 
@@ -71,6 +74,7 @@ impl Given {
                 metadata,
                 room: *room,
             },
+            Given::Report { kid } => Call::Report { kid: *kid },
         }
     }
 
@@ -165,18 +169,20 @@ impl Given {
             .collect();
         if records.is_empty() || generator.one_in(12) {
             let kid = generator.any_width();
-            return match generator.up_to(3) {
+            return match generator.up_to(4) {
                 0 => Given::Remove { kid },
                 1 => Given::seal(generator, kid),
                 2 => Given::open(generator, write_header(kid, 0), vec![]),
+                3 => Given::Report { kid },
                 _ => Given::add(generator, kid),
             };
         }
         let record = generator.pick(&records).clone();
-        match generator.up_to(9) {
+        match generator.up_to(10) {
             0 => Given::add(generator, record.kid),
             1 => Given::Remove { kid: record.kid },
-            2..6 => Given::seal(generator, record.kid),
+            2 => Given::Report { kid: record.kid },
+            3..6 => Given::seal(generator, record.kid),
             _ => {
                 let (frame, metadata) = frame_for(generator, &record);
                 Given::open(generator, frame, metadata)
@@ -185,11 +191,18 @@ impl Given {
     }
 }
 
-/// A frame that is sealed under the key and salt that a record holds.
+/// A frame that is sealed under the key and salt that a record holds, mostly
+/// with a counter around the record's window.
 fn frame_for(generator: &mut Generator, record: &Record) -> (Vec<u8>, Vec<u8>) {
     let length = generator.up_to(70);
-    let mut frame = write_header(record.kid, generator.any_width());
-    let (_, ctr, _) = read_header(&frame).expect("it was just written");
+    let highest = record.window.highest;
+    let ctr = match generator.up_to(9) {
+        0 => generator.any_width(),
+        1..4 => highest.saturating_add(1 + generator.up_to(69) as u64),
+        4 => highest.saturating_sub(62 + generator.up_to(3) as u64),
+        _ => highest.saturating_sub(generator.up_to(69) as u64),
+    };
+    let mut frame = write_header(record.kid, ctr);
     let metadata = generator.bytes(length / 4);
     let mut data = generator.bytes(length);
     let aad = [&frame[..], &metadata].concat();

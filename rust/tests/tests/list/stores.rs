@@ -1,5 +1,6 @@
 //! Stores at random: sound ones of any content, and damaged ones.
 
+use comparison::{set_window, LAYOUT_AT, WINDOW_AT};
 use reference::suites::SUITES;
 use sframe::{MAX_COUNTER, RECORD};
 use testkit::Generator;
@@ -23,6 +24,7 @@ fn fill_record(generator: &mut Generator, place: usize, record: &mut [u8]) {
     let suite = *generator.pick(&SUITES);
     record[0] = state;
     record[1] = suite.number() as u8;
+    record[LAYOUT_AT] = 1;
     let kid = generator.any_width() & !0x3f | place as u64;
     record[4..12].copy_from_slice(&kid.to_be_bytes());
     if state != 2 {
@@ -36,10 +38,35 @@ fn fill_record(generator: &mut Generator, place: usize, record: &mut [u8]) {
         };
         record[2] = spent;
         record[12..20].copy_from_slice(&counter.to_be_bytes());
+    } else {
+        let (highest, mask) = any_window(generator);
+        set_window(record, 0, highest, mask);
     }
     if state != 3 {
         generator.fill(&mut record[20..32 + suite.nk()]);
     }
+}
+
+/// A window of any content: the highest counter opened, and the mask.
+fn any_window(generator: &mut Generator) -> (u64, u64) {
+    if generator.one_in(4) {
+        return (0, 0);
+    }
+    let highest = match generator.up_to(4) {
+        0 => generator.up_to(70) as u64,
+        1 => u64::MAX - generator.up_to(70) as u64,
+        _ => generator.any_width(),
+    };
+    let mask = match generator.up_to(3) {
+        0 => u64::MAX,
+        1 => generator.u64() & generator.u64(),
+        _ => generator.u64(),
+    };
+    let below = match highest {
+        0..63 => (2 << highest) - 1,
+        _ => u64::MAX,
+    };
+    (highest, mask & below | 1)
 }
 
 /// Damages a store in one of many ways; some leave it sound.
@@ -47,7 +74,7 @@ pub fn damage(generator: &mut Generator, store: &mut Vec<u8>) {
     let at = generator.up_to(store.len() - 1);
     let places = store.len() / RECORD;
     let (one, other) = (generator.up_to(places - 1), generator.up_to(places - 1));
-    match generator.up_to(9) {
+    match generator.up_to(11) {
         0 => store[at] ^= 1 << generator.up_to(7),
         1 => store[at] = generator.u64() as u8,
         // The first bytes of a record have the most rules.
@@ -61,6 +88,12 @@ pub fn damage(generator: &mut Generator, store: &mut Vec<u8>) {
             store.copy_within(from..from + 8, other * RECORD + 4);
         }
         7 => store.truncate(at),
+        // The window, in one byte or as a whole.
+        10 => store[one * RECORD + WINDOW_AT + generator.up_to(15)] = generator.u64() as u8,
+        11 => {
+            let (highest, mask) = (generator.up_to(66) as u64, generator.u64());
+            set_window(store, one, highest, mask >> generator.up_to(63));
+        }
         8 => store.resize(at + *generator.pick(&[1, RECORD, 64 * RECORD]), 0),
         _ => {
             let length = generator.up_to(RECORD);

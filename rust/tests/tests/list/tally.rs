@@ -6,7 +6,7 @@ use std::collections::BTreeMap;
 use std::fmt;
 
 /// What each call can answer.
-const ANSWERS: [(&str, &[u32]); 5] = [
+const ANSWERS: [(&str, &[u32]); 6] = [
     ("Make", &[DONE]),
     (
         "Add",
@@ -43,9 +43,12 @@ const ANSWERS: [(&str, &[u32]); 5] = [
             FRAME_SHORT,
             TOO_LONG,
             ROOM_SHORT,
+            ALREADY_OPENED,
+            TOO_OLD,
             TAG_DIFFERS,
         ],
     ),
+    ("Report", &[DONE, STORE_NOT_SOUND, KID_UNKNOWN, WRONG_ROLE]),
 ];
 
 /// Counts of calls by name and number.
@@ -60,6 +63,7 @@ impl Tally {
             Call::Remove { .. } => "Remove",
             Call::Seal { .. } => "Seal",
             Call::Open { .. } => "Open",
+            Call::Report { .. } => "Report",
         };
         *self.0.entry((name, number)).or_default() += 1;
     }

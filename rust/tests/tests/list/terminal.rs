@@ -38,8 +38,10 @@ const KIDS: [u64; 24] = [
     u64::MAX,
 ];
 
-/// How many frames wait to be opened at most.
+/// How many frames wait to be opened at most, and how many somebody has kept to
+/// play them again.
 const WAITING: usize = 8;
+const KEPT: usize = 100;
 
 /// A frame that one Seal of the list wrote.
 struct Sealed {
@@ -49,7 +51,8 @@ struct Sealed {
     frame: Vec<u8>,
 }
 
-/// A key that was added for sending, and a store that receives it.
+/// A key that was added for sending, and a store that receives it and has opened
+/// each of its frames.
 struct SendingKey {
     suite: Suite,
     salt: [u8; NN],
@@ -62,6 +65,10 @@ pub struct Terminal {
     sealed: Vec<Sealed>,
     /// Frames with their metadata, from the other terminal.
     waiting: Vec<(Vec<u8>, Vec<u8>)>,
+    /// Some of those that it has sealed, whether they came here or were lost.
+    kept: Vec<(Vec<u8>, Vec<u8>)>,
+    /// Key number and counter of each frame opened since the key was added.
+    opened: HashSet<(u64, u64)>,
 }
 
 /// One call of `us`, and what follows from it.
@@ -91,6 +98,7 @@ pub fn step(generator: &mut Generator, tally: &mut Tally, us: &mut Terminal, pee
                 kid,
                 base_key: base_key.to_vec(),
             };
+            us.forget(kid);
             us.added(tally, peer, role, key);
         }
         Call::Seal {
@@ -101,12 +109,16 @@ pub fn step(generator: &mut Generator, tally: &mut Tally, us: &mut Terminal, pee
         } => {
             us.check_opens(tally, kid, metadata, plaintext, &outcome);
             us.note_sealed(kid, &outcome);
+            let packet = (outcome.result().to_vec(), metadata.to_vec());
+            if generator.one_in(3) {
+                peer.keep(generator, packet.clone());
+            }
             if peer.waiting.len() < WAITING {
-                let frame = outcome.result().to_vec();
-                peer.waiting.push((frame, metadata.to_vec()));
+                peer.waiting.push(packet);
             }
         }
-        Call::Make | Call::Remove { .. } | Call::Open { .. } => (),
+        Call::Open { frame, .. } => us.note_opened(frame),
+        Call::Make | Call::Remove { .. } | Call::Report { .. } => (),
     }
 }
 
@@ -120,6 +132,8 @@ impl Terminal {
             sending: HashMap::new(),
             sealed: vec![],
             waiting: vec![],
+            kept: vec![],
+            opened: HashSet::new(),
         }
     }
 
@@ -144,7 +158,12 @@ impl Terminal {
         match generator.up_to(199) {
             0..20 => Given::add(generator, kid),
             20..22 => Given::Remove { kid },
-            22..100 => match self.waiting.pop() {
+            22..26 => Given::Report { kid },
+            26..40 if !self.kept.is_empty() => {
+                let (frame, metadata) = generator.pick(&self.kept).clone();
+                Given::open(generator, frame, metadata)
+            }
+            26..100 => match self.waiting.pop() {
                 Some((frame, metadata)) => Given::open(generator, frame, metadata),
                 None => Given::seal(generator, sending),
             },
@@ -187,7 +206,31 @@ impl Terminal {
         let outcome = compare(&self.store, key.add(role));
         tally.count(key.add(role), outcome.number);
         self.store = outcome.store;
+        if outcome.number == DONE {
+            self.forget(key.kid);
+        }
         outcome.number
+    }
+
+    /// A key that is added has opened nothing.
+    fn forget(&mut self, kid: u64) {
+        self.opened.retain(|&(opened, _)| opened != kid);
+    }
+
+    /// No frame was opened before, since its key was added.
+    fn note_opened(&mut self, frame: &[u8]) {
+        let (kid, ctr, _) = read_header(frame).expect("a frame has a header");
+        let new = self.opened.insert((kid, ctr));
+        assert!(new, "KID {kid}, CTR {ctr} was opened twice");
+    }
+
+    /// Keeps a frame, in the place of another where there are too many.
+    fn keep(&mut self, generator: &mut Generator, packet: (Vec<u8>, Vec<u8>)) {
+        if self.kept.len() < KEPT {
+            self.kept.push(packet);
+        } else {
+            self.kept[generator.up_to(KEPT - 1)] = packet;
+        }
     }
 
     fn note_sending(&mut self, key: &Key) {
@@ -204,7 +247,7 @@ impl Terminal {
     /// The frame opens at a store that receives its key, in a room that is just
     /// long enough.
     fn check_opens(
-        &self,
+        &mut self,
         tally: &mut Tally,
         kid: u64,
         metadata: &[u8],
@@ -216,10 +259,12 @@ impl Terminal {
             metadata,
             room: plaintext.len(),
         };
-        let outcome = compare(&self.sending[&kid].receiver, call);
+        let key = self.sending.get_mut(&kid).expect("a key that seals");
+        let outcome = compare(&key.receiver, call);
         tally.count(call, outcome.number);
         assert_eq!(outcome.number, DONE, "{call}");
         assert_eq!(outcome.result(), plaintext);
+        key.receiver = outcome.store;
     }
 
     fn note_sealed(&mut self, kid: u64, outcome: &Outcome) {

@@ -1,6 +1,6 @@
 //! Stores that hold one key number in one way or another.
 
-use comparison::{made, retire, spend, with_key, Key};
+use comparison::{made, retire, spend, with_key, Key, LAYOUT_AT};
 use reference::suites::Suite;
 use sframe::{Role, RECORD};
 
@@ -47,8 +47,9 @@ pub fn store(suite: Suite, held: Held, records: usize) -> Vec<u8> {
     store
 }
 
-/// Sets a byte of the last record that must be zero.
+/// Changes the byte that tells the layout of the last record: 1, or 0 where the
+/// record is empty.
 pub fn make_unsound(store: &mut [u8]) {
     let last = store.len() - RECORD;
-    store[last + 3] = 1;
+    store[last + LAYOUT_AT] ^= 1;
 }

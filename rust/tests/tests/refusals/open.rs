@@ -3,7 +3,7 @@
 use super::held::{make_unsound, store, Held, HELD, KID};
 use super::seen::Seen;
 use comparison::number::*;
-use comparison::{frame, Call, Key};
+use comparison::{frame, set_window, Call, Key};
 use reference::suites::{Suite, SUITES};
 use sframe::{MAX_METADATA, MAX_PLAINTEXT};
 use testkit::combinations;
@@ -16,7 +16,21 @@ const OPEN: &[u32] = &[
     FRAME_SHORT,
     TOO_LONG,
     ROOM_SHORT,
+    ALREADY_OPENED,
+    TOO_OLD,
     TAG_DIFFERS,
+];
+
+/// What the key's window says of counter 0, the frame's: nothing yet, that it
+/// lies within and was not opened, that it was opened, at the window's front and
+/// at its end, and that it lies behind. As highest counter and mask.
+const WINDOWS: [(u64, u64); 6] = [
+    (0, 0),
+    (63, 1),
+    (0, 1),
+    (63, 1 << 63 | 1),
+    (64, u64::MAX),
+    (u64::MAX, 1),
 ];
 
 /// A frame under [`KID`], and what is wrong with it.
@@ -64,9 +78,16 @@ fn open() {
         if unsound {
             make_unsound(&mut store);
         }
-        for frame in frames(suite) {
-            check(&mut seen, &store, held, unsound, &frame);
-            check_without_header(&mut seen, &store, unsound, &frame);
+        // Only a receiving key has opened something.
+        let windows = if held == Held::Receiving { 6 } else { 1 };
+        for window in &WINDOWS[..windows] {
+            if held == Held::Receiving {
+                set_window(&mut store, 0, window.0, window.1);
+            }
+            for frame in frames(suite) {
+                check(&mut seen, &store, held, *window, unsound, &frame);
+                check_without_header(&mut seen, &store, unsound, &frame);
+            }
         }
     }
     seen.finish(&[
@@ -76,17 +97,34 @@ fn open() {
         (BAD_HEADER, WRONG_ROLE),
         (BAD_HEADER, FRAME_SHORT),
         (BAD_HEADER, ROOM_SHORT),
+        (BAD_HEADER, ALREADY_OPENED),
+        (BAD_HEADER, TOO_OLD),
         (BAD_HEADER, TAG_DIFFERS),
-        // An unknown key number has no role and no key.
+        // An unknown key number has no role, no window and no key.
         (KID_UNKNOWN, WRONG_ROLE),
+        (KID_UNKNOWN, ALREADY_OPENED),
+        (KID_UNKNOWN, TOO_OLD),
         (KID_UNKNOWN, TAG_DIFFERS),
+        // Only a receiving key has a window that says something, and it says
+        // one of the two at most.
+        (WRONG_ROLE, ALREADY_OPENED),
+        (WRONG_ROLE, TOO_OLD),
+        (ALREADY_OPENED, TOO_OLD),
         // A frame without a whole tag has neither tag nor result.
         (FRAME_SHORT, ROOM_SHORT),
         (FRAME_SHORT, TAG_DIFFERS),
     ]);
 }
 
-fn check(seen: &mut Seen, store: &[u8], held: Held, unsound: bool, frame: &Frame) {
+fn check(
+    seen: &mut Seen,
+    store: &[u8],
+    held: Held,
+    (highest, mask): (u64, u64),
+    unsound: bool,
+    frame: &Frame,
+) {
+    let opened = highest < 64 && mask >> highest & 1 == 1;
     let long_plaintext = !frame.short && frame.plaintext > MAX_PLAINTEXT;
     for room in [frame.plaintext, frame.plaintext.saturating_sub(1), 0] {
         let call = Call::Open {
@@ -104,6 +142,8 @@ fn check(seen: &mut Seen, store: &[u8], held: Held, unsound: bool, frame: &Frame
                 long_plaintext || frame.metadata.len() > MAX_METADATA,
             ),
             (ROOM_SHORT, !frame.short && room < frame.plaintext),
+            (ALREADY_OPENED, opened),
+            (TOO_OLD, highest >= 64),
             (
                 TAG_DIFFERS,
                 frame.tag_differs && !frame.short && held != Held::Not,

@@ -1,4 +1,4 @@
-//! Add, Remove and Seal.
+//! Add, Remove, Seal and the report.
 
 use super::held::{make_unsound, store, Held, HELD, KID};
 use super::seen::Seen;
@@ -17,6 +17,7 @@ const ADD: &[u32] = &[
     STORE_FULL,
 ];
 const REMOVE: &[u32] = &[STORE_NOT_SOUND, KID_UNKNOWN, WRONG_ROLE];
+const REPORT: &[u32] = REMOVE;
 const SEAL: &[u32] = &[
     STORE_NOT_SOUND,
     KID_UNKNOWN,
@@ -88,6 +89,25 @@ fn remove() {
             ),
         ];
         seen.check(&store, Call::Remove { kid: KID }, causes);
+    }
+    seen.finish(&[(KID_UNKNOWN, WRONG_ROLE)]);
+}
+
+#[test]
+fn report() {
+    let mut seen = Seen::new(REPORT);
+    for [suite, held, unsound] in combinations([5, 6, 2]) {
+        let (held, unsound) = (HELD[held], unsound == 1);
+        let mut store = store(SUITES[suite], held, 2);
+        if unsound {
+            make_unsound(&mut store);
+        }
+        let causes = [
+            (STORE_NOT_SOUND, unsound),
+            (KID_UNKNOWN, held == Held::Not),
+            (WRONG_ROLE, !matches!(held, Held::Not | Held::Receiving)),
+        ];
+        seen.check(&store, Call::Report { kid: KID }, causes);
     }
     seen.finish(&[(KID_UNKNOWN, WRONG_ROLE)]);
 }

@@ -27,6 +27,11 @@ slice-write-row-2 c =
     let at-start = to-start c in
     let n : length (at-start .args .row .now) ≡ recordSize = ap length (at-start .pre) in simp length-set (omega (arith, c .before .before .write-be-at .kept .0))
 
+slice-write-row-3 : tie.Need-slice-write-row-3
+slice-write-row-3 c =
+    let at-start = to-start c in
+    let n : length (at-start .args .row .now) ≡ recordSize = ap length (at-start .pre) in simp length-set (omega (arith, c .before .before .write-be-at .kept .0))
+
 returns : tie.Need-returns
 returns c =
     let at-start = to-start c in
@@ -34,4 +39,4 @@ returns c =
 
 pub start-spec : {M : Type 1} → statement M
 start-spec =
-    tie.close (tie.spec write-be-at-requires slice-write-row slice-write-row-2 (λ c. search needs) returns)
+    tie.close (tie.spec write-be-at-requires slice-write-row slice-write-row-2 slice-write-row-3 (λ c. search needs) returns)

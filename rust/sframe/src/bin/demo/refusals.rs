@@ -2,8 +2,8 @@
 
 use crate::{refusal, BASE_KEY, KID};
 use sframe::{
-    ratchet, ratchet_kid, raw, Kid, Metadata, Refusal, Role, Store, StoreView, Suite, MAX_COUNTER,
-    MAX_PLAINTEXT, RECORD,
+    ratchet, ratchet_kid, raw, Kid, Metadata, Refusal, Role, Store, Suite, MAX_COUNTER,
+    MAX_PLAINTEXT, RECORD, WINDOW,
 };
 
 const SUITE: Suite = Suite::Aes128GcmSha256_128;
@@ -24,9 +24,10 @@ pub fn show() -> Result<(), Refusal> {
     let before = (ward, doctor);
     of_stores(&mut ward, &mut doctor);
     of_sealing(&mut ward, &doctor);
-    of_opening(&doctor, &frame);
-    of_ratchet();
+    of_opening(&mut doctor, &frame);
     assert_eq!((ward, doctor), before);
+    of_replay(&mut ward, &mut doctor, &frame)?;
+    of_ratchet();
     Ok(())
 }
 
@@ -84,8 +85,8 @@ fn of_sealing(ward: &mut [u8], doctor: &[u8]) {
     assert_eq!(room, [0xee; 100]);
 }
 
-fn of_opening(doctor: &[u8], frame: &[u8]) {
-    let doctor = StoreView::over(doctor);
+fn of_opening(doctor: &mut [u8], frame: &[u8]) {
+    let mut doctor = Store::over(doctor);
     let mut room = [0xee; 9];
     let answer = doctor.open(&[0x90, 0x00], Metadata::NONE, &mut room);
     print(refusal(answer), "a header ends within its key number");
@@ -102,6 +103,27 @@ fn of_opening(doctor: &[u8], frame: &[u8]) {
     let answer = doctor.open(&damaged, Metadata::NONE, &mut room);
     print(refusal(answer), "a frame has one bit changed");
     assert_eq!(room, [0xee; 9]);
+}
+
+/// Here frames are opened, so that they can be played again.
+fn of_replay(ward: &mut [u8], doctor: &mut [u8], frame: &[u8]) -> Result<(), Refusal> {
+    let mut doctor = Store::over(doctor);
+    doctor.open_to_vec(frame, Metadata::NONE)?;
+    let again = doctor.open_to_vec(frame, Metadata::NONE);
+    print(refusal(again), "a frame is played a second time");
+
+    let mut ward = Store::over(ward);
+    let mut last = vec![];
+    for _ in 0..WINDOW {
+        last = ward.seal_to_vec(KID, Metadata::NONE, b"a picture")?;
+    }
+    doctor.open_to_vec(&last, Metadata::NONE)?;
+    let late = doctor.open_to_vec(frame, Metadata::NONE);
+    print(
+        refusal(late),
+        "the same frame once more, after that of counter 64",
+    );
+    Ok(())
 }
 
 fn of_ratchet() {

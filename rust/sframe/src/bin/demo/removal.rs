@@ -12,6 +12,7 @@ pub fn show() -> Result<(), Refusal> {
     ward.add(Role::Sending, SUITE, KID, BASE_KEY)?;
     doctor.add(Role::Receiving, SUITE, KID, BASE_KEY)?;
     let frame = ward.seal_to_vec(KID, Metadata::NONE, b"a picture")?;
+    doctor.open_to_vec(&frame, Metadata::NONE)?;
 
     println!("\nKey number 200 is removed at the ward, where it was sending:\n");
     ward.remove(KID)?;
@@ -35,6 +36,7 @@ pub fn show() -> Result<(), Refusal> {
     doctor.add(Role::Receiving, SUITE, KID, BASE_KEY)?;
     let opened = doctor.open_to_vec(&frame, Metadata::NONE)?;
     println!("  added again, it opens \"{}\"", opened.escape_ascii());
+    println!("  So it has forgotten what it opened: a number returns with a new base key alone.");
     Ok(())
 }
 

@@ -40,6 +40,10 @@ pub enum Command {
         store: PathBuf,
         streams: Streams,
     },
+    Report {
+        store: PathBuf,
+        kid: Kid,
+    },
     WriteHeader {
         kid: Kid,
         ctr: Ctr,
@@ -115,6 +119,10 @@ impl Command {
             "open" => Command::Open {
                 store: words.store()?,
                 streams: words.streams()?,
+            },
+            "report" => Command::Report {
+                store: words.store()?,
+                kid: Kid(words.number("--kid")?),
             },
             "header" => words.header()?,
             "ratchet" => words.ratchet()?,

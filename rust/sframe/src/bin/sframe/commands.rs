@@ -10,8 +10,8 @@ use crate::log_file::LogFile;
 use crate::store_file::StoreFile;
 use sframe::{
     frame_room, ratchet_kid, raw, read_header, write_header_at, Ctr, Kid, Metadata, Refusal, Role,
-    Store, StoreView, Suite, MAX_BASE_KEY, MAX_HEADER, MAX_METADATA, MAX_PLAINTEXT, MAX_RECORDS,
-    RECORD,
+    State, Store, StoreView, Suite, MAX_BASE_KEY, MAX_HEADER, MAX_METADATA, MAX_PLAINTEXT,
+    MAX_RECORDS, RECORD, WINDOW,
 };
 use std::io::Write;
 use std::path::Path;
@@ -57,7 +57,18 @@ pub fn run(command: Command, disk: &mut impl Disk, out: &mut impl Write) -> Resu
             };
             give_out(&packet.bytes, &streams, out)
         }
-        Command::Open { store, streams } => open(disk, &store, &streams, out),
+        Command::Open { store, streams } => {
+            let plaintext = open(disk, &store, &streams)?;
+            streams.output.write(&plaintext, out)
+        }
+        Command::Report { store, kid } => {
+            let bytes = StoreFile::at(&store)?.read(disk)?;
+            let count = StoreView::over(&bytes).report(kid)?;
+            print(
+                out,
+                &format!("{count} of the last {WINDOW} counters opened\n"),
+            )
+        }
         Command::WriteHeader { kid, ctr, offset } => {
             let (mut room, offset) = room_at(offset, MAX_HEADER);
             let length = write_header_at(kid, ctr, &mut room, offset)?;
@@ -146,21 +157,28 @@ fn list(disk: &mut impl Disk, path: &Path, out: &mut impl Write) -> Result<(), F
     let bytes = StoreFile::at(path)?.read(disk)?;
     let records = StoreView::over(&bytes).records()?;
     let mut text = format!(
-        "{:<9}  {:<28}  {:>20}  {:>20}\n",
-        "role", "suite", "key number", "next counter"
+        "{:<9}  {:<28}  {:>20}  {:>20}  {:>20}  {:>16}\n",
+        "role", "suite", "key number", "next counter", "highest opened", "window"
     );
     for record in &records {
-        let next = match record.spent {
-            true => "none left".into(),
-            false => record.next.0.to_string(),
+        let next = match record.state {
+            State::Receiving => "-".into(),
+            _ if record.spent => "none left".into(),
+            _ => record.next.0.to_string(),
+        };
+        let (highest, window) = match record.window {
+            None => ("-".into(), "-".into()),
+            Some(window) => (
+                window.highest.0.to_string(),
+                format!("{:016x}", window.mask),
+            ),
         };
         text += &format!(
-            "{:<9}  {} {:<26}  {:>20}  {:>20}\n",
+            "{:<9}  {} {:<26}  {:>20}  {next:>20}  {highest:>20}  {window:>16}\n",
             record.state,
             record.suite.number(),
             record.suite,
             record.kid.0,
-            next
         );
     }
     let total = bytes.len() / RECORD;
@@ -239,19 +257,16 @@ fn give_out(bytes: &[u8], streams: &Streams, out: &mut impl Write) -> Result<(),
     }
 }
 
-/// Opening changes nothing, so it needs no lock: the file is always whole.
-fn open(
-    disk: &mut impl Disk,
-    path: &Path,
-    streams: &Streams,
-    out: &mut impl Write,
-) -> Result<(), Failure> {
+/// Opens a frame. The store that remembers its counter is on the disk before the
+/// plaintext is answered: a run that is stopped between may lose a picture, but
+/// no picture is given out twice.
+fn open(disk: &mut impl Disk, path: &Path, streams: &Streams) -> Result<Vec<u8>, Failure> {
     spare_store(path, &streams.output)?;
     let frame = read_frame(&streams.input, streams.hex)?;
     let metadata = read_metadata(streams)?;
-    let bytes = StoreFile::at(path)?.read(disk)?;
-    let plaintext = StoreView::over(&bytes).open_to_vec(&frame, Metadata(&metadata))?;
-    streams.output.write(&plaintext, out)
+    change(disk, path, |bytes| {
+        Store::over(bytes).open_to_vec(&frame, Metadata(&metadata))
+    })
 }
 
 /// The key goes to a new file that only its owner can read. The layer itself

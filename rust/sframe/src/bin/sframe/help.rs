@@ -5,7 +5,8 @@ sframe: seals and opens frames as RFC 9605 (SFrame) defines it.
 
 The keys are kept in a store, which is a file. Each key has a number (KID) that
 sender and receiver agree on, and is added either for sending or for receiving.
-Each frame that is sealed uses up one counter of its key.
+Each frame that is sealed uses up one counter of its key, and each frame opens
+once.
 
   sframe make STORE --keys N
       Makes a new store with room for N keys, 1 to 64. The file must not exist.
@@ -22,7 +23,9 @@ Each frame that is sealed uses up one counter of its key.
       store, so that no counter is ever used twice.
 
   sframe list STORE
-      Shows role, suite, number and next counter of each key; never the key.
+      Shows role, suite, number and next counter of each key, and of a receiving
+      key the highest counter that it has opened and its window: bit i, in hex,
+      is the counter i below that one. Never the key.
 
   sframe seal STORE --kid K [--in FILE] [--out FILE] [--metadata FILE]
               [--offset N] [--hex] [--log LOG]
@@ -35,7 +38,12 @@ Each frame that is sealed uses up one counter of its key.
 
   sframe open STORE [--in FILE] [--out FILE] [--metadata FILE] [--hex]
       Opens a frame; with --hex the frame is read in hex. Metadata must be what
-      it was in sealing.
+      it was in sealing. No frame opens twice, and none that lies 64 counters or
+      more behind the highest opened. A frame counts as opened once the store is
+      on the disk, which is before the plaintext is given out.
+
+  sframe report STORE --kid K
+      Says how many of the last 64 counters of a receiving key were opened.
 
   sframe header --kid K --ctr N [--offset N]
       Writes the header of a key number and a counter, the shortest, in hex;
@@ -57,7 +65,7 @@ and --out are when they are left out. Numbers are decimal, or hex after 0x.
 
 A store is replaced as a whole or not at all, and a new counter is on the disk
 before the frame under the old one is given out. STORE.lock keeps two runs from
-changing one store at the same time; open and list change nothing and take no
+changing one store at the same time; list and report change nothing and take no
 lock. That file stays: do not remove it while a run may use the store. No store
 may be named like STORE.lock or .STORE.new, and a store that has several hard
 links is not changed.
@@ -65,16 +73,20 @@ links is not changed.
 Frames are no longer safe once a key has used a counter twice. That happens with
 a copy of a store, with a store put back as it was before, say from a backup,
 and with a new store that gets the same keys for sending: never seal with these.
+For receiving, such a store opens frames again that were opened before. A store
+of an earlier version, whose records have 80 bytes, is refused (1): make a new
+one, and give it new keys.
 
-Exit status: 0 done; 1 to 13, 17, 20 and 21 refused, with these causes:
-   1  the store is not sound, or not      8  the key has no counter left
-      1 to 64 keys in making              9  plaintext above 32768 bytes, or
-   2  no such suite                          metadata above 1024
-   3  base key not of 16 to 64 bytes     10  header cut short
-   4  key number already in the store    11  frame too short for a tag
-   5  no empty record left               12  room too short: --offset too large
-   6  key number not in the store        13  the tag does not match
-   7  role does not allow it             20  not 1 to 16 bits of a step, or a
+Exit status: 0 done; 1 to 15, 17, 20 and 21 refused, with these causes:
+   1  the store is not sound, or not      9  plaintext above 32768 bytes, or
+      1 to 64 keys in making                 metadata above 1024
+   2  no such suite                      10  header cut short
+   3  base key not of 16 to 64 bytes     11  frame too short for a tag
+   4  key number already in the store    12  room too short: --offset too large
+   5  no empty record left               13  the tag does not match
+   6  key number not in the store        14  opened before
+   7  role does not allow it             15  64 counters or more too old
+   8  the key has no counter left        20  not 1 to 16 bits of a step, or a
   17  suite 3 is not for sending             key number past 64 bits
                                          21  more than 64 steps
 64 the command line is wrong; 65 an input is not hex; 74 a file failed.

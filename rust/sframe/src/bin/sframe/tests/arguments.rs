@@ -80,6 +80,15 @@ fn numbers() {
 }
 
 #[test]
+fn a_report() {
+    let expected = Command::Report {
+        store: "doctor".into(),
+        kid: Kid(200),
+    };
+    assert_eq!(parse("report doctor --kid 200"), Ok(expected));
+}
+
+#[test]
 fn offsets() {
     for (line, expected) in [
         ("seal ward --kid 1", 0),
@@ -138,6 +147,9 @@ fn wrong_lines() {
         "seal ward --kid 1 --log -",
         "open ward --log log",
         "open ward --kid 1",
+        "report",
+        "report ward",
+        "report ward --kid 1 --in f",
         "header",
         "header --kid 1",
         "header --in f --kid 1",

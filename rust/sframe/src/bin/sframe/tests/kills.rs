@@ -1,5 +1,6 @@
 //! Runs that are killed, or cut off from power, between any two steps: no
-//! counter under which a frame was given out comes again.
+//! counter under which a frame was given out comes again, and no picture that was
+//! given out is given out again.
 
 use super::memory_disk::{MemoryDisk, Unsynced};
 use crate::arguments::{Command, Streams};
@@ -7,7 +8,7 @@ use crate::commands;
 use crate::disk::Disk;
 use crate::failure::Failure;
 use crate::input::Place;
-use sframe::{read_header, Ctr, Kid, Role, StoreView};
+use sframe::{read_header, Ctr, Kid, Refusal, Role, StoreView, MAX_RECORDS, RECORD};
 use std::fs;
 use std::path::PathBuf;
 
@@ -31,6 +32,10 @@ struct Setup {
 impl Setup {
     /// A store that sends under [`KID`].
     fn new(name: &str) -> Self {
+        Self::with(name, Role::Sending)
+    }
+
+    fn with(name: &str, role: Role) -> Self {
         let name = format!("sframe-kills-{}-{name}", std::process::id());
         let folder = std::env::temp_dir().join(name);
         fs::create_dir_all(&folder).unwrap();
@@ -43,9 +48,26 @@ impl Setup {
         };
         let mut disk = setup.disk.clone();
         setup.run(&mut disk, setup.make()).unwrap();
-        setup.run(&mut disk, setup.add(KID)).unwrap();
+        setup.run(&mut disk, setup.add_for(role, KID)).unwrap();
         setup.disk = disk;
         setup
+    }
+
+    /// A store that receives under [`KID`]. So many frames to it are in files
+    /// that have their numbers as names.
+    fn receiving(name: &str, frames: usize) -> Self {
+        let sender = Setup::new(&format!("{name}-sender"));
+        let setup = Setup::with(name, Role::Receiving);
+        let mut disk = sender.disk.clone();
+        for number in 0..frames {
+            let frame = sender.run(&mut disk, sender.seal()).unwrap();
+            fs::write(setup.frame(number), frame).unwrap();
+        }
+        setup
+    }
+
+    fn frame(&self, number: usize) -> PathBuf {
+        self.folder.join(number.to_string())
     }
 
     fn store(&self) -> PathBuf {
@@ -60,9 +82,13 @@ impl Setup {
     }
 
     fn add(&self, kid: Kid) -> Command {
+        self.add_for(Role::Sending, kid)
+    }
+
+    fn add_for(&self, role: Role, kid: Kid) -> Command {
         Command::Add {
             store: self.store(),
-            role: Role::Sending,
+            role,
             kid,
             suite: 4,
             key: Place::File(self.folder.join("key")),
@@ -82,6 +108,31 @@ impl Setup {
                 hex: false,
             },
             log: None,
+        }
+    }
+
+    fn open(&self, number: usize) -> Command {
+        Command::Open {
+            store: self.store(),
+            streams: Streams {
+                input: Place::File(self.frame(number)),
+                output: Place::Standard,
+                metadata: None,
+                hex: false,
+            },
+        }
+    }
+
+    /// Whether the picture of a frame is given out; else it was opened before.
+    #[track_caller]
+    fn given_out(&self, disk: &mut MemoryDisk, number: usize) -> bool {
+        match self.run(disk, self.open(number)) {
+            Ok(picture) => {
+                assert_eq!(picture, b"a picture");
+                true
+            }
+            Err(Failure::Refused(Refusal::AlreadyOpened)) => false,
+            Err(other) => panic!("{other}"),
         }
     }
 
@@ -135,7 +186,8 @@ impl Setup {
 
     /// The bytes of the store on a disk.
     fn bytes(&self, disk: &MemoryDisk) -> Vec<u8> {
-        disk.clone().read(&self.store(), 5_120).unwrap()
+        let most = MAX_RECORDS * RECORD;
+        disk.clone().read(&self.store(), most).unwrap()
     }
 
     /// The next counter that the store on a disk has.
@@ -183,6 +235,61 @@ fn sealing_stopped_at_every_step() {
         }
     }
     assert!(old > 0 && new > 0);
+}
+
+/// A picture may be lost, if the run is stopped behind the store's renaming; one
+/// that was given out does not come again.
+#[test]
+fn opening_stopped_at_every_step() {
+    let setup = Setup::receiving("opening", 1);
+    let (mut shown_later, mut lost) = (0, 0);
+    for step in 0.. {
+        let mut disk = setup.disk.stopping_at(step);
+        let shown = setup.run(&mut disk, setup.open(0)).is_ok();
+        for (names, contents) in RESTARTS {
+            let mut disk = disk.restarted(names, contents);
+            let again = setup.given_out(&mut disk, 0);
+            assert!(
+                !(shown && again),
+                "stopped at {step}, {names:?}, {contents:?}"
+            );
+            shown_later += u32::from(again);
+            lost += u32::from(!shown && !again);
+            assert!(!setup.given_out(&mut disk, 0));
+        }
+        if shown {
+            assert!(
+                step >= 9,
+                "two reads, links, remove, create, write, sync, rename, sync"
+            );
+            break;
+        }
+    }
+    assert!(shown_later > 0 && lost > 0);
+}
+
+/// Many openings in a row, each stopped at another step and restarted in another
+/// way: each picture is given out at most once.
+#[test]
+fn many_stopped_openings() {
+    const FRAMES: usize = 50;
+    let setup = Setup::receiving("many-openings", FRAMES);
+    let mut disk = setup.disk.clone();
+    let mut times = [0; FRAMES];
+    for run in 0..1_000 {
+        let number = run / 20;
+        let mut stopped = disk.stopping_at(run * 7 % 13);
+        if setup.run(&mut stopped, setup.open(number)).is_ok() {
+            times[number] += 1;
+        }
+        let (names, contents) = RESTARTS[run / 3 % 4];
+        disk = stopped.restarted(names, contents);
+    }
+    assert!(times.iter().all(|&times| times <= 1), "{times:?}");
+    assert!(times.contains(&1), "no picture was given out");
+    for number in 0..FRAMES {
+        assert!(!setup.given_out(&mut disk, number));
+    }
 }
 
 /// Many runs that log, each stopped at another step: every frame that was given
