@@ -15,10 +15,17 @@
  *
  * Key numbers (KID), counters (CTR) and suites are 64 bits wide, so no number of a caller's is cut.
  *
+ * The records of a store stand by rising key number, the empty ones last, and count from 0. Every call
+ * judges the whole store, and then finds its record by its key number. Where a caller knows the place
+ * of that record, sframe_seal_near, sframe_open_near and sframe_remove_near look there first. A place
+ * is a guess and may be any number: it never alters an answer. sframe_find tells a place; adding or
+ * removing a key moves the records behind it.
+ *
  * What the caller owes, since no callee can check it and no proof covers it:
  *   - each pointer is valid for as many bytes as the length beside it says; a byte string whose length
  *     is 0 may be given as a null pointer;
- *   - the pointers for single numbers (kid, ctr, length, count) are valid, aligned and never null;
+ *   - the pointers for single numbers (kid, ctr, length, count, place) are valid, aligned and never
+ *     null;
  *   - whatever a call writes to (store, room, single numbers) overlaps nothing else of the call;
  *   - one caller at a time: while a call uses a store, nobody else writes to that store, and nobody
  *     reads it while a call changes it. Opening changes it too, so no two openings share a store;
@@ -47,8 +54,9 @@ extern "C" {
 /* The answers. */
 enum sframe_answer {
     SFRAME_DONE = 0,
-    /* The store breaks a rule of its layout, be it that its keys are those of an older library, whose
-     * records had 80 bytes. In making: its length is not 96 to 6144 in steps of 96. */
+    /* The store breaks a rule of its layout: its records do not stand by rising key number, say, or are
+     * those of an older library, which had 80 bytes.
+     * In making: its length is not 96 to 98304 in steps of 96. */
     SFRAME_STORE_NOT_SOUND = 1,
     /* The suite is none of enum sframe_suite. */
     SFRAME_SUITE_UNKNOWN = 2,
@@ -99,7 +107,7 @@ enum sframe_suite {
 };
 
 /* The most keys of a store, and the bytes of a store for so many keys, 1 to SFRAME_MAX_KEYS. */
-#define SFRAME_MAX_KEYS 64
+#define SFRAME_MAX_KEYS 1024
 #define SFRAME_STORE_SIZE(keys) ((size_t)96 * (keys))
 
 /* The limits of base keys, plaintext and metadata, in bytes. */
@@ -132,8 +140,8 @@ uint32_t sframe_make(uint8_t *store, size_t store_len);
 
 /*
  * Adds a key for sealing: what RFC 9605 derives for suite and kid from the base key. It goes to the
- * first empty record of the store, and its counter starts at 0. A key number that was once added for
- * sending is never added again, in either role.
+ * place of its key number, and the records behind move by one; its counter starts at 0. A key number
+ * that was once added for sending is never added again, in either role.
  *
  * SFRAME_AES_128_CTR_HMAC_SHA256_32 is for receiving alone, since a tag of 4 bytes is easier to forge
  * (RFC 9605, section 7.5). A sending key of that suite which a store already holds seals on, until its
@@ -152,15 +160,28 @@ uint32_t sframe_add_receiving(uint8_t *store, size_t store_len, uint64_t kid, ui
                               size_t base_key_len);
 
 /*
- * Removes a key. The record of a receiving key becomes empty, and its key number may return; which
- * frames it has opened is forgotten, so it should not return with the same base key. That of a sending
- * key becomes retired, even if it has sealed nothing: key and salt are wiped, the record and the key
- * number stay taken.
+ * Removes a key. The record of a receiving key goes, those behind it move by one, and its key number
+ * may return; which frames it has opened is forgotten, so it should not return with the same base key.
+ * The record of a sending key becomes retired where it stands, even if it has sealed nothing: key and
+ * salt are wiped, the record and the key number stay taken.
  *
  * SFRAME_DONE, or the first of SFRAME_STORE_NOT_SOUND, SFRAME_KID_UNKNOWN, SFRAME_WRONG_ROLE that
  * holds.
  */
 uint32_t sframe_remove(uint8_t *store, size_t store_len, uint64_t kid);
+
+/*
+ * Removes a key as sframe_remove does, and looks for its record at place first.
+ */
+uint32_t sframe_remove_near(uint8_t *store, size_t store_len, uint64_t kid, size_t place);
+
+/*
+ * Tells where the record of a key number stands, be it a retired one. The store is not changed.
+ *
+ * SFRAME_DONE: *place is the number of the record, from 0.
+ * Else the first of SFRAME_STORE_NOT_SOUND, SFRAME_KID_UNKNOWN that holds: *place is 0.
+ */
+uint32_t sframe_find(const uint8_t *store, size_t store_len, uint64_t kid, size_t *place);
 
 /*
  * Seals a plaintext under the key of kid and its next counter, and writes the frame (header,
@@ -188,6 +209,13 @@ uint32_t sframe_seal_at(uint8_t *store, size_t store_len, uint64_t kid, const ui
                         size_t *length);
 
 /*
+ * Seals as sframe_seal_at does, and looks for the record of kid at place first.
+ */
+uint32_t sframe_seal_near(uint8_t *store, size_t store_len, uint64_t kid, size_t place, const uint8_t *metadata,
+                          size_t metadata_len, const uint8_t *plaintext, size_t plaintext_len, uint8_t *out,
+                          size_t out_len, size_t offset, size_t *length);
+
+/*
  * Opens a frame, given the metadata of its sealing, and writes the plaintext to the start of out.
  * Nothing is written before the tag is found to match. The tag is over the header as it was received,
  * in its shortest form or a longer one. What counts as plaintext for SFRAME_TOO_LONG are the bytes
@@ -204,6 +232,12 @@ uint32_t sframe_seal_at(uint8_t *store, size_t store_len, uint64_t kid, const ui
  */
 uint32_t sframe_open(uint8_t *store, size_t store_len, const uint8_t *frame, size_t frame_len,
                      const uint8_t *metadata, size_t metadata_len, uint8_t *out, size_t out_len, size_t *length);
+
+/*
+ * Opens as sframe_open does, and looks for the record of the frame's key number at place first.
+ */
+uint32_t sframe_open_near(uint8_t *store, size_t store_len, size_t place, const uint8_t *frame, size_t frame_len,
+                          const uint8_t *metadata, size_t metadata_len, uint8_t *out, size_t out_len, size_t *length);
 
 /*
  * How many of the last SFRAME_WINDOW counters were opened under a receiving key, the highest that was

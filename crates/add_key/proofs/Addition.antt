@@ -3,7 +3,7 @@ use mathlib.Core.Path.{_≡_, refl, sym, _∙_, ap}
 use mathlib.Core.Bool.{Bool, true, false, not}
 use mathlib.Core.List.{List, [], _∷_}
 use Prim.Native.Nat.{ℕ, _<_, _≤_}
-use lib.ListN.{length, getD, set}
+use lib.ListN.{length, getD}
 use borrow.Author.Tests.{le-leb, lt-leb}
 use Rattle.answers.specs.Answers.{done, storeInvalid, suiteUnknown, sendingBarred, baseKeySize, kidHeld, storeFull, _if_, first, Outcome, settled}
 use Rattle.answers.specs.Limits.{baseKeyLeast, baseKeyMost}
@@ -12,18 +12,17 @@ use Rattle.suites.specs.declared.sizes.Suite.{Suite}
 use Rattle.suites.proofs.Laws.{number-known}
 use Rattle.store.specs.Calls.{stored}
 use Rattle.store.specs.Cipher.{Cipher}
-use Rattle.key_record.specs.Record.{KeyRecord, empty, isEmpty}
+use Rattle.key_record.specs.Record.{empty, isEmpty, holds}
 use Rattle.store.specs.Sframe.{keyFor, saltFor, sframe}
 use Rattle.store.specs.Store.{encodeAll, records, sound}
 use Rattle.key_record.specs.Suites.{isSuite}
-use Rattle.store.specs.Table.{get, fill, full, FoundIn, FreeIn}
+use Rattle.store.specs.Table.{get, insert, full}
 use Rattle.key_record.specs.inner.Rows.{fresh}
-use Rattle.store.specs.declared.Place.{Place}
-use Rattle.store.specs.declared.Place.the-variants.{At, Nowhere}
+use Rattle.store.specs.inner.Places.{rank, Insertable}
 use Rattle.key_record.specs.declared.Role.{Role}
 use Rattle.key_record.specs.declared.Role.the-variants.{Sending, Receiving}
 use Rattle.answers.proofs.Basics.{told-false, told-true}
-use Rattle.store.proofs.Tables.{fill-at}
+use Rattle.store.proofs.Places.{place-found, place-nowhere}
 use Rattle.key_record.proofs.KindLaws.{holds-some}
 use Rattle.add_key.specs.Add.{barred, added, addCauses, addAt, add}
 
@@ -35,9 +34,6 @@ fresh-added Receiving s kid base = rw (number-known s)
 
 pub added-told : (role : Role) (s : Suite) (kid suite : ℕ) (base : List ℕ) → suite ≡ numberOf s → fresh role s kid base ≡ added sframe role kid suite base
 added-told role s kid suite base e = fresh-added role s kid base ∙ ap (λ (k : ℕ). added sframe role kid k base) (sym e)
-
-pub free-empty : (rs : List KeyRecord) (i : ℕ) (p : Place) → FreeIn p rs → p ≡ At i → isEmpty (getD rs i empty) ≡ true
-free-empty rs i p f w = let g : FreeIn (At i) rs = rw w at f in g .1
 
 -- what an Add answers, and what it leaves in the store
 abbrev Answers : ℕ → List ℕ → Outcome → Type 0
@@ -76,31 +72,31 @@ module _ (cipher : Cipher) (s : List ℕ) (role : Role) (kid suite : ℕ) (base 
             let c = lt-leb (length base) baseKeyMost k in
             (rw (is-sound, u, a, b, c), rw (is-sound, u, a, b, c))
 
-        module _ (k : length base ≤ baseKeyMost) (p : Place) (f : FoundIn p kid (records s)) where
+        module _ (k : length base ≤ baseKeyMost) (i : ℕ) (p : i ≡ rank kid (records s)) (held : Bool) (f : held ≡ holds kid (getD (records s) i empty)) where
           -- what Add comes to once these are judged
           outcome-of : (free whole : Bool) → isEmpty (get kid (records s)) ≡ free → full (records s) ≡ whole
-              → add cipher s role kid suite base ≡ settled (first ((kidHeld if not free) ∷ (storeFull if whole) ∷ [])) s [] (stored (encodeAll (fill (added cipher role kid suite base) (records s))))
+              → add cipher s role kid suite base ≡ settled (first ((kidHeld if not free) ∷ (storeFull if whole) ∷ [])) s [] (stored (encodeAll (insert (added cipher role kid suite base) (records s))))
           unfolding add addAt addCauses first
           outcome-of free whole g q = rw (is-sound, u, a, le-leb baseKeyLeast (length base) h, le-leb (length base) baseKeyMost k, g, q)
 
-          pub add-held : (i : ℕ) → p ≡ At i → Answers kidHeld s (add cipher s role kid suite base)
+          pub add-held : held ≡ true → Answers kidHeld s (add cipher s role kid suite base)
           unfolding first settled
-          add-held i w =
-              let g : FoundIn (At i) kid (records s) = rw w at f in
+          add-held z =
+              let g = place-found s kid i held is-sound f z in
               answers _ _ (outcome-of false (full (records s)) (ap isEmpty (g .1) ∙ holds-some kid (getD (records s) i empty) (g .2)) refl)
 
-          module _ (w : p ≡ Nowhere) (v : Place) (d : FreeIn v (records s)) where
+          module _ (z : held ≡ false) (v : Bool) (d : v ≡ full (records s)) where
             nowhere : isEmpty (get kid (records s)) ≡ true
-            nowhere = let g : get kid (records s) ≡ empty = rw w at f in ap isEmpty g
+            nowhere = ap isEmpty (place-nowhere s kid i held is-sound p f z)
 
-            pub add-full : v ≡ Nowhere → Answers storeFull s (add cipher s role kid suite base)
+            pub add-full : v ≡ true → Answers storeFull s (add cipher s role kid suite base)
             unfolding first settled
-            add-full z = let g : full (records s) ≡ true = rw z at d in answers _ _ (outcome-of true true nowhere g)
+            add-full w = answers _ _ (outcome-of true true nowhere (sym d ∙ w))
 
-            pub add-done : (i : ℕ) → v ≡ At i → (x : List ℕ) → x ≡ encodeAll (set (records s) i (added cipher role kid suite base)) → Answers done x (add cipher s role kid suite base)
+            pub add-done : v ≡ false → (x : List ℕ) → x ≡ encodeAll (insert (added cipher role kid suite base) (records s)) → Answers done x (add cipher s role kid suite base)
             unfolding first settled
-            add-done i z x c =
-                let g : FreeIn (At i) (records s) = rw z at d in
-                let m = fill-at (added cipher role kid suite base) (records s) i g in
-                let y = answers _ _ (outcome-of true false nowhere (m .1)) in
-                (y .0, c ∙ ap encodeAll (sym (m .0)) ∙ y .1)
+            add-done w x c = let y = answers _ _ (outcome-of true false nowhere (sym d ∙ w)) in (y .0, c ∙ y .1)
+
+            -- there is a place for it
+            pub add-room : v ≡ false → Insertable s i kid
+            add-room w = (is-sound, p, sym f ∙ z, sym d ∙ w)

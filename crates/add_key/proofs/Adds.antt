@@ -16,12 +16,12 @@ use Rattle.store.specs.Cipher.{Cipher}
 use Rattle.key_record.specs.Record.{KeyRecord, empty, isEmpty, holds}
 use Rattle.store.specs.Store.{encodeAll}
 use Rattle.key_record.specs.Suites.{isSuite}
-use Rattle.store.specs.Table.{get, fill, full}
+use Rattle.store.specs.Table.{get, insert, full}
 use Rattle.key_record.specs.declared.Role.{Role}
 use Rattle.key_record.specs.declared.Role.the-variants.{Sending, Receiving}
 use Rattle.store.proofs.CipherLaws.{Laws}
 use Rattle.key_record.proofs.Codec.{Secret, Fit, fresh-in-range}
-use Rattle.store.proofs.Stores.{Stored, stored-sound, stored-records, Change, fill-change}
+use Rattle.store.proofs.Stores.{Stored, stored-sound, stored-records, Change, insert-change}
 use Rattle.store.proofs.Tables.{empty-is}
 use Rattle.add_key.specs.Add.{barred, added, addCauses, addAt, add}
 
@@ -32,8 +32,8 @@ added-holds cipher Receiving kid suite base = eq-eqb kid kid refl
 
 pub data AddStep (cipher : Cipher) (s : List ℕ) (rs : List KeyRecord) (role : Role) (kid suite : ℕ) (base : List ℕ) (o : Outcome) : Type 0 where
   done : o .number ≡ 0 → isSuite suite ≡ true → barred role suite ≡ false → get kid rs ≡ empty
-      → Change kid (added cipher role kid suite base) rs (fill (added cipher role kid suite base) rs)
-      → Stored (o .store) (fill (added cipher role kid suite base) rs) → AddStep cipher s rs role kid suite base o
+      → Change kid (added cipher role kid suite base) rs (insert (added cipher role kid suite base) rs)
+      → Stored (o .store) (insert (added cipher role kid suite base) rs) → AddStep cipher s rs role kid suite base o
   refused : (o .number ≡ 0 → ⊥) → o .store ≡ s → AddStep cipher s rs role kid suite base o
 
 module _ (cipher : Cipher) (laws : Laws cipher) where
@@ -58,17 +58,17 @@ module _ (cipher : Cipher) (laws : Laws cipher) where
     pub add-step : (role : Role) (kid suite : ℕ) (base : List ℕ) → kid < 2 ^ 64 → Octets base → AddStep cipher s rs role kid suite base (add cipher s role kid suite base)
     unfolding addAt addCauses
     add-step role kid suite base h b =
-        rw (add-on role kid suite base) (by (addAt cipher true rs s role kid suite base) (settle (addCauses true role suite (length base) (get kid rs) rs) s [] (stored (encodeAll (fill new rs))) refl))
+        rw (add-on role kid suite base) (by (addAt cipher true rs s role kid suite base) (settle (addCauses true role suite (length base) (get kid rs) rs) s [] (stored (encodeAll (insert new rs))) refl))
       where
         new : KeyRecord
         new = added cipher role kid suite base
 
-        by : (o : Outcome) → Settled (addCauses true role suite (length base) (get kid rs) rs) s [] (stored (encodeAll (fill (added cipher role kid suite base) rs))) o → AddStep cipher s rs role kid suite base o
+        by : (o : Outcome) → Settled (addCauses true role suite (length base) (get kid rs) rs) s [] (stored (encodeAll (insert (added cipher role kid suite base) rs))) o → AddStep cipher s rs role kid suite base o
         by o (refusal d r) = refused (λ e. d (sym (r .number-is) ∙ e)) (r .store-stays)
         by o (success p q) =
             let known : isSuite suite ≡ true = not-false (isSuite suite) (p .1 .0) in
             let free : isEmpty (get kid rs) ≡ true = not-false (isEmpty (get kid rs)) (p .1 .1 .1 .1 .0) in
-            let c = fill-change kid rs (t .table) new (added-fit role kid suite base h b known) (added-holds cipher role kid suite base) free (p .1 .1 .1 .1 .1 .0) in
+            let c = insert-change kid rs (t .table) new (added-fit role kid suite base h b known) (added-holds cipher role kid suite base) free (p .1 .1 .1 .1 .1 .0) in
             done (ap (λ (x : Outcome). x .number) q) known (p .1 .1 .0) (empty-is (get kid rs) free) c
             (record { table = c .table; bytes-are = sym (ap (λ (x : Outcome). x .store) q) })
 

@@ -17,7 +17,7 @@ use Rattle.key_record.specs.Record.{KeyRecord, sending, receiving, isEmpty}
 use Rattle.store.specs.Store.{encodeAll, records, sound}
 use Rattle.key_record.specs.Suites.{isSuite}
 use Rattle.window.specs.Window.{fresh}
-use Rattle.store.specs.Table.{get, fill, full}
+use Rattle.store.specs.Table.{get, insert, full}
 use Rattle.key_record.specs.declared.Role.{Role}
 use Rattle.key_record.specs.declared.Role.the-variants.{Sending, Receiving}
 
@@ -49,8 +49,8 @@ added cipher Receiving kid suite base = receiving (record { suite = suite; kid =
 
 unfoldable pub addAt : (cipher : Cipher) (valid : Bool) (rs : List KeyRecord) (s : List ℕ) (role : Role) (kid suite : ℕ) (base : List ℕ) → Outcome
 addAt cipher valid rs s role kid suite base =
-    settled (first (addCauses valid role suite (length base) (get kid rs) rs)) s [] (stored (encodeAll (fill (added cipher role kid suite base) rs)))
+    settled (first (addCauses valid role suite (length base) (get kid rs) rs)) s [] (stored (encodeAll (insert (added cipher role kid suite base) rs)))
 
--- The lowest-numbered empty record holds the key.
+-- The record of the key is inserted at its place.
 unfoldable pub add : (cipher : Cipher) (s : List ℕ) (role : Role) (kid suite : ℕ) (base : List ℕ) → Outcome
 add cipher s role kid suite base = addAt cipher (sound s) (records s) s role kid suite base

@@ -13,7 +13,6 @@ use answers::STORE_INVALID;
 use answers::SUITE_UNKNOWN;
 use header::Kid;
 use key_record::Role;
-use store::Place;
 use suites::sizes::Aes128CtrHmacSha256Tag32;
 use suites::sizes::Found;
 
@@ -27,7 +26,7 @@ fn is_barred(role: Role, suite: u64) -> bool
     }
 }
 
-// Adds a key: the lowest-numbered empty record holds what the suite derives from the base key for a KID.
+// Adds a key: a record with what the suite derives from the base key for a KID, inserted at its place.
 pub fn add(store: &mut [u8], role: Role, kid: Kid, suite: u64, base: &[u8]) -> u32
     ensures { λ r. ⌜ r ≡ add sframe (now (store .entry)) role (kid .0) suite (now (base .entry)) .number ⌝ }
     ensures { λ _. ⌜ now (store .exit) ≡ add sframe (now (store .entry)) role (kid .0) suite (now (base .entry)) .store ⌝ }
@@ -47,12 +46,13 @@ pub fn add(store: &mut [u8], role: Role, kid: Kid, suite: u64, base: &[u8]) -> u
     if MAX_BASE_KEY < base.len() {
         return BASE_KEY_SIZE;
     }
-    let Place::Nowhere = store::find(store, kid) else {
+    let i = store::rank(store, kid);
+    if store::stands_at(store, i, kid) {
         return KID_HELD;
-    };
-    let Place::At(i) = store::find_free(store) else {
+    }
+    if store::is_full(store) {
         return STORE_FULL;
-    };
-    store::fill_at(store, i, role, known, kid, base);
+    }
+    store::insert_at(store, i, role, known, kid, base);
     DONE
 }

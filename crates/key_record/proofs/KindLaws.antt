@@ -1,10 +1,11 @@
 -- What a record's kind and its KID say of it. Assumes nothing.
-use mathlib.Core.Path.{_≡_, refl, sym}
-use mathlib.Core.Bool.{true, false, false≢true}
+use mathlib.Core.Path.{_≡_, refl, sym, _∙_, ap₂}
+use mathlib.Core.Bool.{Bool, true, false, false≢true}
 use Prim.Native.Nat.{ℕ, _≤_}
 use native.Mathlib.Omega.{arith}
+use lib.Dec.{ltb}
 use borrow.Author.Tests.{eq-eqb}
-use Rattle.key_record.specs.Record.{KeyRecord, empty, sending, receiving, retired, isEmpty, isSending, isReceiving, kidOf, holds, counterOf, ceiling}
+use Rattle.key_record.specs.Record.{KeyRecord, empty, sending, receiving, retired, isEmpty, isSending, isReceiving, kidOf, holds, inOrder, precedes, counterOf, ceiling}
 use Rattle.key_record.specs.inner.Rows.{kindOf, hasKey}
 use Rattle.key_record.proofs.Codec.{Fit}
 use Rattle.key_record.specs.declared.Kind.{Kind}
@@ -59,3 +60,28 @@ holds-own empty h = sym h
 holds-own (sending r) h = eq-eqb (r .kid) (r .kid) refl
 holds-own (receiving r w) h = eq-eqb (r .kid) (r .kid) refl
 holds-own (retired r) h = eq-eqb (r .kid) (r .kid) refl
+
+-- ---- the order of two records, as it is told
+
+module _ (r next : KeyRecord) (b : Bool) (e : b ≡ isEmpty next) where
+  pub order-vacant : b ≡ true → true ≡ inOrder r next
+  unfolding inOrder
+  order-vacant t = rw (sym e ∙ t)
+
+  module _ (a : Bool) (f : a ≡ isEmpty r) (n : b ≡ false) where
+    pub order-none : a ≡ true → false ≡ inOrder r next
+    unfolding inOrder
+    order-none t = rw (sym e ∙ n, sym f ∙ t)
+
+    pub order-kids : (j k : ℕ) → a ≡ false → j ≡ kidOf r → k ≡ kidOf next → ltb j k ≡ inOrder r next
+    unfolding inOrder
+    order-kids j k t p q = ap₂ ltb p q ∙ rw (sym e ∙ n, sym f ∙ t)
+
+module _ (kid : ℕ) (r : KeyRecord) (a : Bool) (f : a ≡ isEmpty r) where
+  pub precedes-none : a ≡ true → false ≡ precedes kid r
+  unfolding precedes
+  precedes-none t = rw (sym f ∙ t)
+
+  pub precedes-kid : (j : ℕ) → a ≡ false → j ≡ kidOf r → ltb j kid ≡ precedes kid r
+  unfolding precedes
+  precedes-kid j t p = rw (p, sym f ∙ t)

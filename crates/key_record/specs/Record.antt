@@ -1,9 +1,10 @@
 -- The records of the key store as values, what each gives, and how it changes. Where its bytes stand is Layout.antt's.
 -- Assumes nothing.
-use mathlib.Core.Bool.{Bool, true, false}
+use mathlib.Core.Bool.{Bool, true, false, not}
 use mathlib.Core.List.{List, []}
 use Prim.Native.Nat.{ℕ, _+_, _^_}
-use lib.Dec.{eqb}
+use lib.Dec.{eqb, ltb}
+use Rattle.octets.specs.Octets.{pick, both}
 use Rattle.window.specs.Window.{fresh, moved}
 use Rattle.window.specs.declared.Window.{Window}
 
@@ -79,6 +80,14 @@ holds kid empty = false
 holds kid (sending r) = eqb (r .kid) kid
 holds kid (receiving r w) = eqb (r .kid) kid
 holds kid (retired r) = eqb (r .kid) kid
+
+-- Whether next may stand right behind r: it is empty, or both hold KIDs and these rise.
+unfoldable pub inOrder : (r next : KeyRecord) → Bool
+inOrder r next = pick (isEmpty next) true (both (not (isEmpty r)) (ltb (kidOf r) (kidOf next)))
+
+-- Whether a record is a non-empty one with a lower KID.
+unfoldable pub precedes : ℕ → KeyRecord → Bool
+precedes kid r = both (not (isEmpty r)) (ltb (kidOf r) kid)
 
 abbrev pub suiteOf : KeyRecord → ℕ
 suiteOf empty = 0

@@ -6,7 +6,7 @@ ghost use Prim.Native.Nat.{_≤_, _<_};
 ghost use lib.ListN.{length, replicate};
 ghost use Rattle.answers.specs.Limits.{baseKeyMost};
 ghost use Rattle.key_record.specs.Layout.{recordSize, encode, decode};
-ghost use Rattle.key_record.specs.Record.{ceiling, empty, isEmpty, isSending, isReceiving, kidOf, holds, suiteOf, saltOf, keyOf, counterOf, windowOf, advanced, noted};
+ghost use Rattle.key_record.specs.Record.{ceiling, empty, isEmpty, isSending, isReceiving, kidOf, holds, inOrder, precedes, suiteOf, saltOf, keyOf, counterOf, windowOf, advanced, noted};
 ghost use Rattle.key_record.specs.Suites.{saltSize};
 ghost use Rattle.key_record.specs.inner.Judging.{newRow};
 ghost use Rattle.key_record.specs.inner.Rows.{Row, Numbered, kindOf, hasKey, counterLeft, markFor, fresh, kept};
@@ -96,6 +96,31 @@ pub fn holds_kid(row: &[u8], kid: Kid) -> bool
         return false;
     }
     octets::read_be64(&row[KID..]) == kid.0
+}
+
+// Whether the record of next may stand right behind that of row.
+pub fn in_order(row: &[u8], next: &[u8]) -> bool
+    requires { ⌜ (length (now row) ≡ recordSize) × (length (now next) ≡ recordSize) ⌝ }
+    ensures { λ r. ⌜ r ≡ inOrder (decode (now (row .entry))) (decode (now (next .entry))) ⌝ }
+{
+    if is_empty(next) {
+        return true;
+    }
+    if is_empty(row) {
+        return false;
+    }
+    kid_of(row).0 < kid_of(next).0
+}
+
+// Whether a record is a non-empty one with a lower KID.
+pub fn precedes(row: &[u8], kid: Kid) -> bool
+    requires { ⌜ length (now row) ≡ recordSize ⌝ }
+    ensures { λ r. ⌜ r ≡ precedes (kid .0) (decode (now (row .entry))) ⌝ }
+{
+    if is_empty(row) {
+        return false;
+    }
+    kid_of(row).0 < kid.0
 }
 
 // The suite of a record.

@@ -2,13 +2,13 @@
 use mathlib.Core.Path.{_≡_, refl, sym, _∙_, ap, ap₂}
 use mathlib.Core.List.{List, [], _∷_, _++_, append-assoc, append-nil}
 use Prim.Native.Nat.{ℕ, suc, _+_, _*_, _/_, _%_, _^_, _-_, _<_, _≤_}
-use native.Mathlib.Nat.{zero-add, sub-self, sub-zero, pow-zero, div-one, div-div-eq-div-mul, pow-suc, pow-le-pow-right, lt-of-lt-of-le}
+use native.Mathlib.Nat.{zero-add, add-comm, sub-self, sub-zero, pow-zero, div-one, div-div-eq-div-mul, pow-suc, pow-le-pow-right, lt-of-lt-of-le}
 use native.Mathlib.Numerals.{add-one, one-add}
 use native.Mathlib.Omega.{arith}
 use lib.Arith.{digits-lt}
 use lib.Bits.{bitOr, bitXor, xor-self, or-zero-l}
 use lib.ListN.{length, getD, take, drop, set, replicate, length-append, replicate-append-replicate, length-replicate, take-append-drop, length-drop}
-use lib.Seq.{take-suc, drop-cons, set-at, getD-at, take-all, getD-drop, drop-length, take-length, getD-take, take-take, length-take-le}
+use lib.Seq.{take-at, drop-at, take-suc, drop-cons, set-at, getD-at, take-all, getD-drop, drop-length, take-length, getD-take, take-take, length-take-le}
 use borrow.Rule.Slice.PartMut.{putMid}
 use Rattle.octets.specs.Octets.{number, bytes, pasted, xors}
 use Rattle.octets.proofs.Bits.{or-zero, xor-zero}
@@ -165,3 +165,56 @@ differ-before d i a b h k q e =
 
 pub taken-all : (i : ℕ) (a b : List ℕ) → length a ≤ i → length b ≤ i → take i a ≡ take i b → a ≡ b
 taken-all i a b h k e = sym (take-all i a h) ∙ e ∙ take-all i b k
+
+-- moving up: one byte more, from the last to the first
+pub up-start : (l : List ℕ) (n : ℕ) → n ≤ length l → l ≡ take (length l) l ++ drop (length l - n) (take (length l - n) l)
+up-start l n h =
+    let t = take (length l - n) l in
+    let e : length t ≡ length l - n = length-take-le (length l - n) l (omega arith) in
+    sym (append-nil l) ∙ ap₂ (λ (a b : List ℕ). a ++ b) (sym (take-length l)) (sym (ap (λ (k : ℕ). drop k t) (sym e) ∙ drop-length t))
+
+pub up-next : (o l : List ℕ) (n i : ℕ) → n < i → i ≤ length l → o ≡ take i l ++ drop (i - n) (take (length l - n) l)
+    → set o (i - 1) (getD o (i - 1 - n) 0) ≡ take (i - 1) l ++ drop (i - 1 - n) (take (length l - n) l)
+up-next o l n i p h q =
+    let t = take (length l - n) l in
+    let s : i ≡ suc (i - 1) = omega arith in
+    let s′ : i - n ≡ suc (i - 1 - n) = omega arith in
+    let lt : length t ≡ length l - n = length-take-le (length l - n) l (omega arith) in
+    let front : take i l ≡ take (i - 1) l ++ (getD l (i - 1) 0 ∷ []) = ap (λ (k : ℕ). take k l) s ∙ take-suc l (i - 1) 0 (omega arith) in
+    let o′ : o ≡ take (i - 1) l ++ (getD l (i - 1) 0 ∷ drop (i - n) t) = q ∙ ap (λ (x : List ℕ). x ++ drop (i - n) t) front ∙ append-assoc (take (i - 1) l) (getD l (i - 1) 0 ∷ []) (drop (i - n) t) in
+    let v : getD o (i - 1 - n) 0 ≡ getD l (i - 1 - n) 0 =
+    sym (getD-take i o (i - 1 - n) 0 (omega arith))
+    ∙ ap (λ (x : List ℕ). getD x (i - 1 - n) 0) (ap (take i) q ∙ take-at (take i l) (drop (i - n) t) i (length-take-le i l h))
+    ∙ getD-take i l (i - 1 - n) 0 (omega arith)
+    in
+    let w : getD t (i - 1 - n) 0 ≡ getD l (i - 1 - n) 0 = getD-take (length l - n) l (i - 1 - n) 0 (omega arith) in
+    let d : drop (i - 1 - n) t ≡ getD l (i - 1 - n) 0 ∷ drop (i - n) t =
+    drop-cons t (i - 1 - n) 0 (omega arith) ∙ ap₂ (λ (x : ℕ) (y : List ℕ). x ∷ y) w (ap (λ (k : ℕ). drop k t) (sym s′))
+    in
+    ap₂ (λ (x : List ℕ) (y : ℕ). set x (i - 1) y) o′ v
+    ∙ set-at (take (i - 1) l) (getD l (i - 1) 0) (drop (i - n) t) (getD l (i - 1 - n) 0) (i - 1) (length-take-le (i - 1) l (omega arith))
+    ∙ ap (λ (x : List ℕ). take (i - 1) l ++ x) (sym d)
+
+pub up-done : (o l : List ℕ) (n i : ℕ) → n ≤ i → i ≤ n → o ≡ take i l ++ drop (i - n) (take (length l - n) l) → o ≡ take n l ++ take (length l - n) l
+up-done o l n i h k q =
+    let e : i ≡ n = omega arith in
+    q ∙ ap (λ (m : ℕ). take m l ++ drop (m - n) (take (length l - n) l)) e ∙ ap (λ (m : ℕ). take n l ++ drop m (take (length l - n) l)) (sub-self n)
+
+-- moving down: one byte more, as in copying what stands n places further on
+pub down-next : (o l : List ℕ) (n i : ℕ) → n ≤ length l → i < length l - n → o ≡ take i (drop n l) ++ drop i l
+    → set o i (getD o (i + n) 0) ≡ take (i + 1) (drop n l) ++ drop (i + 1) l
+down-next o l n i h k q =
+    let d = length-drop n l in
+    let v : getD o (i + n) 0 ≡ getD (drop n l) i 0 =
+    sym (getD-drop i o n 0)
+    ∙ ap (λ (t : List ℕ). getD t n 0) (ap (drop i) q ∙ drop-at (take i (drop n l)) (drop i l) i (length-take-le i (drop n l) (omega arith)))
+    ∙ getD-drop i l n 0
+    ∙ ap (λ (j : ℕ). getD l j 0) (add-comm i n)
+    ∙ sym (getD-drop n l i 0)
+    in
+    ap (set o i) v ∙ copy-next o (drop n l) l i (omega arith) (omega arith) q
+
+pub down-done : (o l : List ℕ) (n i : ℕ) → n ≤ length l → i ≤ length l - n → length l - n ≤ i → o ≡ take i (drop n l) ++ drop i l → o ≡ drop n l ++ drop (length l - n) l
+down-done o l n i h j k q =
+    let d = length-drop n l in
+    copied o (drop n l) l i (omega arith) (omega arith) q ∙ ap (λ (m : ℕ). drop n l ++ drop m l) d

@@ -1,8 +1,8 @@
 // Big-endian numbers in bytes, and copying, clearing, comparing and combining slices of bytes.
 ghost use mathlib.Core.Path.{_≡_};
 ghost use mathlib.Core.List.{_++_};
-ghost use Prim.Native.Nat.{_+_, _*_, _^_, _≤_, _<_, min};
-ghost use lib.ListN.{length, drop, replicate};
+ghost use Prim.Native.Nat.{_+_, _*_, _-_, _^_, _≤_, _<_, min};
+ghost use lib.ListN.{length, take, drop, replicate};
 ghost use Rattle.octets.specs.Octets.{number, bytes, pasted, same, xors};
 
 fn wide(b: u8) -> u64
@@ -125,6 +125,31 @@ pub fn clear(out: &mut [u8])
     let mut i = 0;
     while i < out.len() {
         out[i] = 0;
+        i += 1;
+    }
+}
+
+// Moves the bytes of s up by n places; the last n fall off, the first n stay as they were.
+pub fn move_up(s: &mut [u8], n: usize)
+    requires { ⌜ n ≤ length (now s) ⌝ }
+    ensures { λ _. ⌜ now (s .exit) ≡ take n (now (s .entry)) ++ take (length (now (s .entry)) - n) (now (s .entry)) ⌝ }
+{
+    let mut i = s.len();
+    while n < i {
+        i -= 1;
+        s[i] = s[i - n];
+    }
+}
+
+// Moves the bytes of s down by n places; the first n fall off, the last n stay as they were.
+pub fn move_down(s: &mut [u8], n: usize)
+    requires { ⌜ n ≤ length (now s) ⌝ }
+    ensures { λ _. ⌜ now (s .exit) ≡ drop n (now (s .entry)) ++ drop (length (now (s .entry)) - n) (now (s .entry)) ⌝ }
+{
+    let rest = s.len() - n;
+    let mut i = 0;
+    while i < rest {
+        s[i] = s[i + n];
         i += 1;
     }
 }

@@ -37,7 +37,7 @@ use Rattle.store.specs.declared.Place.{Place}
 use Rattle.store.specs.declared.Place.the-variants.{At, Nowhere}
 use Rattle.key_record.proofs.KindLaws.{receives-held, holds-some}
 use Rattle.key_record.proofs.Suites.{tag-named}
-use Rattle.store.proofs.Stores.{sound-stored}
+use Rattle.store.proofs.Stores.{sound-stored, kids-apart}
 use Rattle.store.proofs.Tables.{put-at}
 use Rattle.window.specs.Window.{seen, tooOld}
 use Rattle.window.specs.declared.Window.{Window}
@@ -319,7 +319,7 @@ module _ (s m f room : List ℕ) (kid : Kid) (ctr : Ctr) (n : ℕ) (is-sound : s
                 (a .0, a .1),
                 (
                   e ∙ ap (λ (v : KeyRecord). encodeAll (set (records s) i (noted (ctr .0) v))) (sym (r .1))
-                      ∙ ap encodeAll (sym (put-at (kid .0) (noted (ctr .0) (decode l)) (records s) i (sound-stored s o is-sound .table .kids-apart) (found .2)))
+                      ∙ ap encodeAll (sym (put-at (kid .0) (noted (ctr .0) (decode l)) (records s) i (kids-apart (sound-stored s o is-sound .table)) (found .2)))
                       ∙ sym (ap (λ (v : Outcome). v .store) opens),
                   a .2,
                 ),

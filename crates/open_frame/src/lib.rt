@@ -142,7 +142,13 @@ fn open_with(
 }
 
 // Opens a frame: the plaintext stands at the start of the room. Once it does, and not before, the frame's counter is noted.
-pub fn open(store: &mut [u8], frame: &[u8], metadata: &[u8], room: &mut [u8]) -> Answer
+pub fn open(
+    store: &mut [u8],
+    place: usize,
+    frame: &[u8],
+    metadata: &[u8],
+    room: &mut [u8],
+) -> Answer
     ensures { λ r. ⌜ (r .number ≡ opening sframe (now (store .entry)) (now (metadata .entry)) (now (frame .entry)) (now (room .entry)) .number) × (r .length ≡ opening sframe (now (store .entry)) (now (metadata .entry)) (now (frame .entry)) (now (room .entry)) .written) ⌝ }
     ensures { λ _. ⌜ now (store .exit) ≡ opening sframe (now (store .entry)) (now (metadata .entry)) (now (frame .entry)) (now (room .entry)) .store ⌝ }
     ensures { λ _. ⌜ now (room .exit) ≡ opening sframe (now (store .entry)) (now (metadata .entry)) (now (frame .entry)) (now (room .entry)) .room ⌝ }
@@ -153,7 +159,7 @@ pub fn open(store: &mut [u8], frame: &[u8], metadata: &[u8], room: &mut [u8]) ->
     let Reading::Header(kid, ctr, n) = header::read_header(frame) else {
         return refused(HEADER_INVALID);
     };
-    let Place::At(i) = store::find(store, kid) else {
+    let Place::At(i) = store::find_near(store, kid, place) else {
         return refused(KID_MISSING);
     };
     let answer = open_with(store::row_at(store, i), kid, ctr, n, metadata, frame, room);

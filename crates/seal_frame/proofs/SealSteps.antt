@@ -39,7 +39,7 @@ use Rattle.store.specs.declared.Place.{Place}
 use Rattle.store.specs.declared.Place.the-variants.{At, Nowhere}
 use Rattle.key_record.proofs.Codec.{Fit}
 use Rattle.key_record.proofs.KindLaws.{sends-held, fit-counter, holds-some}
-use Rattle.store.proofs.Stores.{sound-stored, get-fit}
+use Rattle.store.proofs.Stores.{sound-stored, kids-apart, get-fit}
 use Rattle.key_record.proofs.Suites.{tag-named}
 use Rattle.store.proofs.Tables.{put-at}
 use Rattle.seal_frame.specs.Frame.{frameWith, frame}
@@ -246,7 +246,7 @@ module _ (s : List ℕ) (kid : ℕ) (metadata plaintext room : List ℕ) where
               → Leaves (seal sframe s kid metadata plaintext 0 room) done n x y
           unfolding success
           seal-done oc m q n x y b d g =
-              let a : apart (records s) ≡ true = sound-stored s oc is-sound .table .kids-apart in
+              let a : apart (records s) ≡ true = kids-apart (sound-stored s oc is-sound .table) in
               let o = outcome-of (decode m) (found .1 ∙ sym (q .1)) ∙ settled-done _ s room (success (decode m) (records s) kid metadata plaintext room) (judged-again m q) in
               let u = leaves _ _ o in
               let d′ = d ∙ ap (λ (j : ℕ). nextFrame sframe (decode m) kid metadata plaintext ++ drop j room) b ∙ sym (pasted-front room (nextFrame sframe (decode m) kid metadata plaintext)) in

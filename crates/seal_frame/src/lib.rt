@@ -119,10 +119,11 @@ fn write_frame(row: &[u8], kid: Kid, metadata: &[u8], plaintext: &[u8], room: &m
 }
 
 // Seals a plaintext with the key of a KID: the frame stands at the front of the room. The counter is counted up once
-// everything has been checked.
+// everything has been checked. Any number may be given for the place where the record is believed to stand.
 pub fn seal(
     store: &mut [u8],
     kid: Kid,
+    place: usize,
     metadata: &[u8],
     plaintext: &[u8],
     room: &mut [u8],
@@ -134,7 +135,7 @@ pub fn seal(
     if !store::is_sound(store) {
         return refused(STORE_INVALID);
     }
-    let Place::At(i) = store::find(store, kid) else {
+    let Place::At(i) = store::find_near(store, kid, place) else {
         return refused(KID_MISSING);
     };
     let number = judge(
@@ -160,6 +161,7 @@ pub fn seal(
 pub fn seal_at(
     store: &mut [u8],
     kid: Kid,
+    place: usize,
     metadata: &[u8],
     plaintext: &[u8],
     room: &mut [u8],
@@ -170,5 +172,5 @@ pub fn seal_at(
     ensures { λ _. ⌜ now (room .exit) ≡ seal sframe (now (store .entry)) (kid .0) (now (metadata .entry)) (now (plaintext .entry)) offset (now (room .entry)) .room ⌝ }
 {
     let from = octets::min(offset, room.len());
-    seal(store, kid, metadata, plaintext, &mut room[from..])
+    seal(store, kid, place, metadata, plaintext, &mut room[from..])
 }

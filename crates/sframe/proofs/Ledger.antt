@@ -13,11 +13,11 @@ use Rattle.header.specs.Header.{header, readHeader}
 use Rattle.header.specs.declared.Reading.the-variants.{Header}
 use Rattle.header.proofs.Laws.{read-header}
 use Rattle.answers.specs.Answers.{Outcome}
-use Rattle.store.specs.Calls.{make, remove}
+use Rattle.store.specs.Calls.{make, remove, find}
 use Rattle.add_key.specs.Add.{add, added as addedRecord}
 use Rattle.store.specs.Cipher.{Cipher}
 use Rattle.key_record.specs.Record.{ceiling, SendingKey, ReceivingKey, KeyRecord, empty, sending, receiving, retired, counterOf}
-use Rattle.store.specs.Table.{get, put, clear, fill}
+use Rattle.store.specs.Table.{get, put, insert, without}
 use Rattle.answers.proofs.Basics.{Two, yes′, no′, two, settled-store}
 use Rattle.store.proofs.CipherLaws.{Laws}
 use Rattle.store.proofs.Keys.{make-stored, empties-get, RemoveStep, remove-step}
@@ -33,7 +33,7 @@ use Rattle.window.specs.Window.{moved}
 use Rattle.window.specs.declared.Window.{Window}
 use Rattle.seal_frame.specs.Frame.{frameWith, frame}
 use Rattle.sframe.specs.Promises.{kidOf, ctrOf, senders, keyFrom, saltFrom}
-use Rattle.sframe.specs.History.{Call, Add, Remove, Seal, Open, Report, Typed, AllTyped, Adding, Sealing, Event, added, sealed, opened, other, event, History, outcome, step, run, start}
+use Rattle.sframe.specs.History.{Call, Add, Remove, Seal, Open, Report, Find, Typed, AllTyped, Adding, Sealing, Event, added, sealed, opened, other, event, History, outcome, step, run, start}
 use Rattle.key_record.specs.Suites.{isSuite}
 use Rattle.seal_frame.proofs.Seals.{next, Sealed, SealStep, seal-step}
 use Rattle.key_record.specs.declared.Role.{Role}
@@ -294,6 +294,10 @@ module _ (cipher : Cipher) (rs : List KeyRecord) (log : List Event) (a : Account
 
 -- ---- every list
 
+pub find-store : (s : List ℕ) (kid : ℕ) → find s kid .store ≡ s
+unfolding find
+find-store s kid = settled-store _ s [] _ refl
+
 pub report-store : (s : List ℕ) (kid : ℕ) → report s kid .store ≡ s
 unfolding report
 report-store s kid = settled-store _ s [] _ refl
@@ -321,31 +325,32 @@ module _ (cipher : Cipher) (laws : Laws cipher) where
       by : AddStep cipher (h .store) (i .table) role kid suite base (add cipher (h .store) role kid suite base) → Inv cipher (step cipher (Add role kid suite base) h)
       by (AddStep.refused d e) = stays cipher h i _ _ e (passed-by _ _ d)
       by (AddStep.done z known allowed free c st) =
-          goes-on cipher h i _ (fill (addedRecord cipher role kid suite base) (i .table)) _ (added (addingOf role kid suite base)) st (happened _ _ z)
-          (added-account cipher (i .table) (h .log) (i .account) kid suite base (q .1) (fill (addedRecord cipher role kid suite base) (i .table)) free role c)
-  step-keeps (Remove kid) h q i = by (remove-step (h .store) (i .table) (i .is-stored) kid)
+          goes-on cipher h i _ (insert (addedRecord cipher role kid suite base) (i .table)) _ (added (addingOf role kid suite base)) st (happened _ _ z)
+          (added-account cipher (i .table) (h .log) (i .account) kid suite base (q .1) (insert (addedRecord cipher role kid suite base) (i .table)) free role c)
+  step-keeps (Remove kid place) h q i = by (remove-step (h .store) (i .table) (i .is-stored) kid)
     where
-      by : RemoveStep (h .store) (i .table) kid (remove (h .store) kid) → Inv cipher (step cipher (Remove kid) h)
+      by : RemoveStep (h .store) (i .table) kid (remove (h .store) kid) → Inv cipher (step cipher (Remove kid place) h)
       by (RemoveStep.refused d e) = stays cipher h i _ _ e refl
       by (RemoveStep.freed r w z g c st) =
-          goes-on cipher h i _ (clear kid (i .table)) other other st refl (freed-account cipher (i .table) (h .log) (i .account) kid r w (clear kid (i .table)) g c)
+          goes-on cipher h i _ (without kid (i .table)) other other st refl (freed-account cipher (i .table) (h .log) (i .account) kid r w (without kid (i .table)) g c)
       by (RemoveStep.closed r z g c st) =
           goes-on cipher h i _ (put kid (kept (sending r)) (i .table)) other other st refl (closed-account cipher (i .table) (h .log) (i .account) kid r (put kid (kept (sending r)) (i .table)) g c)
-  step-keeps (Seal kid metadata plaintext offset room) h q i = by (seal-step cipher laws (h .store) (i .table) (i .is-stored) kid metadata plaintext offset room)
+  step-keeps (Seal kid place metadata plaintext offset room) h q i = by (seal-step cipher laws (h .store) (i .table) (i .is-stored) kid metadata plaintext offset room)
     where
-      by : SealStep cipher (h .store) (i .table) kid metadata plaintext offset (seal cipher (h .store) kid metadata plaintext offset room) → Inv cipher (step cipher (Seal kid metadata plaintext offset room) h)
+      by : SealStep cipher (h .store) (i .table) kid metadata plaintext offset (seal cipher (h .store) kid metadata plaintext offset room) → Inv cipher (step cipher (Seal kid place metadata plaintext offset room) h)
       by (SealStep.refused d e) = stays cipher h i _ _ e (passed-by _ _ d)
       by (SealStep.done r p) =
           goes-on cipher h i _ (put kid (next r) (i .table)) _ (sealed (sealingOf metadata plaintext offset (seal cipher (h .store) kid metadata plaintext offset room))) (p .store-is) (happened _ _ (p .answers))
           (sealed-account cipher (i .table) (h .log) (i .account) kid metadata plaintext offset (seal cipher (h .store) kid metadata plaintext offset room) r (q .1) (q .2) p)
-  step-keeps (Open metadata bytes room) h q i = by (open-step cipher (h .store) (i .table) (i .is-stored) metadata bytes room (q .1))
+  step-keeps (Open place metadata bytes room) h q i = by (open-step cipher (h .store) (i .table) (i .is-stored) metadata bytes room (q .1))
     where
-      by : OpenStep (h .store) (i .table) (readKid (readHeader bytes)) (readCtr (readHeader bytes)) (opening cipher (h .store) metadata bytes room) → Inv cipher (step cipher (Open metadata bytes room) h)
+      by : OpenStep (h .store) (i .table) (readKid (readHeader bytes)) (readCtr (readHeader bytes)) (opening cipher (h .store) metadata bytes room) → Inv cipher (step cipher (Open place metadata bytes room) h)
       by (OpenStep.refused d e) = stays cipher h i _ _ e (passed-by _ _ d)
       by (OpenStep.done r w p) =
           goes-on cipher h i _ (put (readKid (readHeader bytes)) (receiving r (moved w (readCtr (readHeader bytes)))) (i .table)) _ (opened (record { kid = readKid (readHeader bytes); ctr = readCtr (readHeader bytes) })) (p .store-is) (happened _ _ (p .answers))
           (opened-account cipher (i .table) (h .log) (i .account) (readKid (readHeader bytes)) (readCtr (readHeader bytes)) (opening cipher (h .store) metadata bytes room) r w p)
   step-keeps (Report kid) h q i = stays cipher h i _ _ (report-store (h .store) kid) refl
+  step-keeps (Find kid) h q i = stays cipher h i _ _ (find-store (h .store) kid) refl
 
   pub run-keeps : (cs : List Call) (h : History) → AllTyped cs → Inv cipher h → Inv cipher (run cipher cs h)
   unfolding run

@@ -17,7 +17,7 @@ use Rattle.store.specs.Store.{records, sound}
 use Rattle.store.specs.Table.{get, put}
 use Rattle.answers.proofs.Basics.{Two, yes′, no′, two}
 use Rattle.store.proofs.CipherLaws.{Laws}
-use Rattle.store.proofs.Stores.{Stored, sound-stored, stored-records, stored-lengths}
+use Rattle.store.proofs.Stores.{Stored, kids-apart, sound-stored, stored-records, stored-lengths}
 use Rattle.store.proofs.Tables.{get-at, put-at}
 use Rattle.seal_frame.specs.Seal.{sealAt, seal}
 use Rattle.open_frame.specs.Open.{openAt, opening}
@@ -59,14 +59,14 @@ module _ (s : List ℕ) (kid place : ℕ) (os : Octets s) (ss : sound s ≡ true
   st = sound-stored s os ss
 
   here : get kid (records s) ≡ getD (records s) place empty
-  here = get-at kid (records s) place (st .table .kids-apart) h
+  here = get-at kid (records s) place (kids-apart (st .table)) h
 
   module _ (new : KeyRecord) (o : Outcome) where
     record-after : Changed s kid new o → getD (records (o .store)) place empty ≡ after (o .number) new (getD (records s) place empty)
     unfolding after
     record-after (changed z t) =
         ap (λ (x : List KeyRecord). getD x place empty) (stored-records (o .store) (put kid new (records s)) t)
-        ∙ ap (λ (x : List KeyRecord). getD x place empty) (put-at kid new (records s) place (st .table .kids-apart) h)
+        ∙ ap (λ (x : List KeyRecord). getD x place empty) (put-at kid new (records s) place (kids-apart (st .table)) h)
         ∙ getD-set-same (records s) place new empty (inside kid (records s) place h)
         ∙ sym (ap (λ (n : ℕ). after n new (getD (records s) place empty)) z)
     record-after (stayed d e) = ap (λ (x : List ℕ). getD (records x) place empty) e ∙ sym (stays (o .number) d)
@@ -78,7 +78,7 @@ module _ (s : List ℕ) (kid place : ℕ) (os : Octets s) (ss : sound s ≡ true
     others-after : Changed s kid new o → OthersStay s o place
     others-after (stayed d e) = record { length-stays = ap length e; others-stay = λ j d. ap (λ (x : List ℕ). getD (records x) j empty) e }
     others-after (changed z t) =
-        let q = put-at kid new (records s) place (st .table .kids-apart) h in
+        let q = put-at kid new (records s) place (kids-apart (st .table)) h in
         record {
           length-stays = stored-lengths (o .store) s (put kid new (records s)) (records s) t st (ap length q ∙ length-set (records s) place new);
           others-stay = λ j d.
@@ -86,22 +86,22 @@ module _ (s : List ℕ) (kid place : ℕ) (os : Octets s) (ss : sound s ≡ true
               ∙ getD-set-other (records s) place j new empty d;
         }
 
-module _ (s t : List ℕ) (kid place : ℕ) (a : Alike s t kid place) where
-  t-holds : holds kid (getD (records t) place empty) ≡ true
+module _ (s t : List ℕ) (kid i j : ℕ) (a : Alike s t kid i j) where
+  t-holds : holds kid (getD (records t) j empty) ≡ true
   t-holds = rw (a .alike) at (a .holds-kid)
 
   -- where such a call answers alike on both stores, and makes the record anew in one way
-  same-answer : (f : KeyRecord → KeyRecord) (o p : Outcome) → Agree o p → Changed s kid (f (getD (records s) place empty)) o → Changed t kid (f (getD (records t) place empty)) p → SameAnswer s t place o p
+  same-answer : (f : KeyRecord → KeyRecord) (o p : Outcome) → Agree o p → Changed s kid (f (getD (records s) i empty)) o → Changed t kid (f (getD (records t) j empty)) p → SameAnswer s t i j o p
   same-answer f o p g x y = record {
     same-number = g .0;
     same-length = g .1;
     same-room = g .2;
     same-record =
-        record-after s kid place (a .s-octets) (a .s-sound) (a .holds-kid) (f (getD (records s) place empty)) o x
+        record-after s kid i (a .s-octets) (a .s-sound) (a .holds-kid) (f (getD (records s) i empty)) o x
         ∙ ap₂ (λ (n : ℕ) (r : KeyRecord). after n (f r) r) (g .0) (a .alike)
-        ∙ sym (record-after t kid place (a .t-octets) (a .t-sound) t-holds (f (getD (records t) place empty)) p y);
-    s-others = others-after s kid place (a .s-octets) (a .s-sound) (a .holds-kid) (f (getD (records s) place empty)) o x;
-    t-others = others-after t kid place (a .t-octets) (a .t-sound) t-holds (f (getD (records t) place empty)) p y;
+        ∙ sym (record-after t kid j (a .t-octets) (a .t-sound) t-holds (f (getD (records t) j empty)) p y);
+    s-others = others-after s kid i (a .s-octets) (a .s-sound) (a .holds-kid) (f (getD (records s) i empty)) o x;
+    t-others = others-after t kid j (a .t-octets) (a .t-sound) t-holds (f (getD (records t) j empty)) p y;
   }
 
 -- ---- Seal
@@ -123,22 +123,22 @@ module _ (cipher : Cipher) (laws : Laws cipher) (s : List ℕ) (kid place : ℕ)
           changed (p .answers) (rw e at (p .store-is))
       by o (SealStep.refused d e) = stayed d e
 
-module _ (cipher : Cipher) (laws : Laws cipher) (s t : List ℕ) (kid place : ℕ) (a : Alike s t kid place) where
+module _ (cipher : Cipher) (laws : Laws cipher) (s t : List ℕ) (kid i j : ℕ) (a : Alike s t kid i j) where
   pub neighbours-seal : (metadata plaintext : List ℕ) (offset : ℕ) (room : List ℕ)
-      → SameAnswer s t place (seal cipher s kid metadata plaintext offset room) (seal cipher t kid metadata plaintext offset room)
+      → SameAnswer s t i j (seal cipher s kid metadata plaintext offset room) (seal cipher t kid metadata plaintext offset room)
   unfolding sealAt
   neighbours-seal metadata plaintext offset room =
-      let held = getD (records s) place empty in
-      let on-s = seal-at cipher laws s kid place (a .s-octets) (a .s-sound) (a .holds-kid) metadata plaintext offset room in
-      let on-t = seal-at cipher laws t kid place (a .t-octets) (a .t-sound) (t-holds s t kid place a) metadata plaintext offset room ∙ ap (λ (x : KeyRecord). sealAt cipher true x (records t) t kid metadata plaintext offset room) (sym (a .alike)) in
+      let held = getD (records s) i empty in
+      let on-s = seal-at cipher laws s kid i (a .s-octets) (a .s-sound) (a .holds-kid) metadata plaintext offset room in
+      let on-t = seal-at cipher laws t kid j (a .t-octets) (a .t-sound) (t-holds s t kid i j a) metadata plaintext offset room ∙ ap (λ (x : KeyRecord). sealAt cipher true x (records t) t kid metadata plaintext offset room) (sym (a .alike)) in
       let g : Agree (sealAt cipher true held (records s) s kid metadata plaintext offset room) (sealAt cipher true held (records t) t kid metadata plaintext offset room) = settled-agree _ s t room _ _ (refl, refl, refl) in
-      same-answer s t kid place a advanced (seal cipher s kid metadata plaintext offset room) (seal cipher t kid metadata plaintext offset room) (
+      same-answer s t kid i j a advanced (seal cipher s kid metadata plaintext offset room) (seal cipher t kid metadata plaintext offset room) (
         ap (λ (o : Outcome). o .number) on-s ∙ g .0 ∙ sym (ap (λ (o : Outcome). o .number) on-t),
         ap (λ (o : Outcome). o .written) on-s ∙ g .1 ∙ sym (ap (λ (o : Outcome). o .written) on-t),
         ap (λ (o : Outcome). o .room) on-s ∙ g .2 ∙ sym (ap (λ (o : Outcome). o .room) on-t),
       )
-      (seal-changed cipher laws s kid place (a .s-octets) (a .s-sound) (a .holds-kid) metadata plaintext offset room)
-      (seal-changed cipher laws t kid place (a .t-octets) (a .t-sound) (t-holds s t kid place a) metadata plaintext offset room)
+      (seal-changed cipher laws s kid i (a .s-octets) (a .s-sound) (a .holds-kid) metadata plaintext offset room)
+      (seal-changed cipher laws t kid j (a .t-octets) (a .t-sound) (t-holds s t kid i j a) metadata plaintext offset room)
 
 -- ---- Open
 
@@ -159,19 +159,19 @@ module _ (cipher : Cipher) (s : List ℕ) (place : ℕ) (os : Octets s) (ss : so
           changed (p .answers) (rw e at (p .store-is))
       by o (OpenStep.refused d e) = stayed d e
 
-module _ (cipher : Cipher) (s t : List ℕ) (place : ℕ) (metadata bytes room : List ℕ) (ob : Octets bytes) (a : Alike s t (readKid (readHeader bytes)) place) where
-  pub neighbours-open : SameAnswer s t place (opening cipher s metadata bytes room) (opening cipher t metadata bytes room)
+module _ (cipher : Cipher) (s t : List ℕ) (i j : ℕ) (metadata bytes room : List ℕ) (ob : Octets bytes) (a : Alike s t (readKid (readHeader bytes)) i j) where
+  pub neighbours-open : SameAnswer s t i j (opening cipher s metadata bytes room) (opening cipher t metadata bytes room)
   unfolding openAt
   neighbours-open =
-      let held = getD (records s) place empty in
-      let th = t-holds s t (readKid (readHeader bytes)) place a in
-      let on-s = open-at cipher s place (a .s-octets) (a .s-sound) metadata bytes room ob (a .holds-kid) in
-      let on-t = open-at cipher t place (a .t-octets) (a .t-sound) metadata bytes room ob th ∙ ap (λ (x : KeyRecord). openAt cipher true (readHeader bytes) x (records t) t metadata bytes room) (sym (a .alike)) in
+      let held = getD (records s) i empty in
+      let th = t-holds s t (readKid (readHeader bytes)) i j a in
+      let on-s = open-at cipher s i (a .s-octets) (a .s-sound) metadata bytes room ob (a .holds-kid) in
+      let on-t = open-at cipher t j (a .t-octets) (a .t-sound) metadata bytes room ob th ∙ ap (λ (x : KeyRecord). openAt cipher true (readHeader bytes) x (records t) t metadata bytes room) (sym (a .alike)) in
       let g : Agree (openAt cipher true (readHeader bytes) held (records s) s metadata bytes room) (openAt cipher true (readHeader bytes) held (records t) t metadata bytes room) = settled-agree _ s t room _ _ (refl, refl, refl) in
-      same-answer s t (readKid (readHeader bytes)) place a (noted (readCtr (readHeader bytes))) (opening cipher s metadata bytes room) (opening cipher t metadata bytes room) (
+      same-answer s t (readKid (readHeader bytes)) i j a (noted (readCtr (readHeader bytes))) (opening cipher s metadata bytes room) (opening cipher t metadata bytes room) (
         ap (λ (o : Outcome). o .number) on-s ∙ g .0 ∙ sym (ap (λ (o : Outcome). o .number) on-t),
         ap (λ (o : Outcome). o .written) on-s ∙ g .1 ∙ sym (ap (λ (o : Outcome). o .written) on-t),
         ap (λ (o : Outcome). o .room) on-s ∙ g .2 ∙ sym (ap (λ (o : Outcome). o .room) on-t),
       )
-      (open-changed cipher s place (a .s-octets) (a .s-sound) metadata bytes room ob (a .holds-kid))
-      (open-changed cipher t place (a .t-octets) (a .t-sound) metadata bytes room ob th)
+      (open-changed cipher s i (a .s-octets) (a .s-sound) metadata bytes room ob (a .holds-kid))
+      (open-changed cipher t j (a .t-octets) (a .t-sound) metadata bytes room ob th)

@@ -20,7 +20,7 @@ use Rattle.add_key.specs.Add.{barred, add}
 use Rattle.add_key.proofs.Adds.{AddStep, add-step}
 use Rattle.seal_frame.specs.Seal.{seal}
 use Rattle.open_frame.specs.Open.{opening}
-use Rattle.sframe.specs.History.{Call, Add, Remove, Seal, Open, Report, Typed, AllTyped, Adding, Sealing, Event, added, sealed, opened, other, event, History, outcome, step, run, start}
+use Rattle.sframe.specs.History.{Call, Add, Remove, Seal, Open, Report, Find, Typed, AllTyped, Adding, Sealing, Event, added, sealed, opened, other, event, History, outcome, step, run, start}
 use Rattle.sframe.specs.Promises.{isSender, senders, NeverAgain, NoneBarred}
 use Rattle.sframe.proofs.Ledger.{Inv, step-keeps}
 
@@ -52,18 +52,19 @@ module _ (cipher : Cipher) (laws : Laws cipher) where
       by : Two (eqb (add cipher (h .store) role kid suite base .number) 0) → Fresh (step cipher (Add role kid suite base) h .log)
       by (yes′ t) = rw t (fresh-add h role kid suite base (q .0) (q .1) i (eqb-true _ 0 t), p)
       by (no′ t) = rw t p
-  fresh-step (Remove kid) h q i p = p
-  fresh-step (Seal kid metadata plaintext offset room) h q i p = by (two (eqb (seal cipher (h .store) kid metadata plaintext offset room .number) 0))
+  fresh-step (Remove kid place) h q i p = p
+  fresh-step (Seal kid place metadata plaintext offset room) h q i p = by (two (eqb (seal cipher (h .store) kid metadata plaintext offset room .number) 0))
     where
-      by : Two (eqb (seal cipher (h .store) kid metadata plaintext offset room .number) 0) → Fresh (step cipher (Seal kid metadata plaintext offset room) h .log)
+      by : Two (eqb (seal cipher (h .store) kid metadata plaintext offset room .number) 0) → Fresh (step cipher (Seal kid place metadata plaintext offset room) h .log)
       by (yes′ t) = rw t p
       by (no′ t) = rw t p
-  fresh-step (Open metadata frame room) h q i p = by (two (eqb (opening cipher (h .store) metadata frame room .number) 0))
+  fresh-step (Open place metadata frame room) h q i p = by (two (eqb (opening cipher (h .store) metadata frame room .number) 0))
     where
-      by : Two (eqb (opening cipher (h .store) metadata frame room .number) 0) → Fresh (step cipher (Open metadata frame room) h .log)
+      by : Two (eqb (opening cipher (h .store) metadata frame room .number) 0) → Fresh (step cipher (Open place metadata frame room) h .log)
       by (yes′ t) = rw t p
       by (no′ t) = rw t p
   fresh-step (Report kid) h q i p = p
+  fresh-step (Find kid) h q i p = p
 
   pub run-fresh : (cs : List Call) (h : History) → AllTyped cs → Inv cipher h → Fresh (h .log) → Fresh (run cipher cs h .log)
   unfolding run

@@ -18,7 +18,7 @@ use Rattle.key_record.specs.Record.{KeyRecord, empty, sending, receiving, retir
 use Rattle.key_record.specs.inner.Rows.{kept}
 use Rattle.store.specs.Calls.{make, remove}
 use Rattle.store.specs.Cipher.{Cipher}
-use Rattle.store.specs.Table.{get, put, clear, fill}
+use Rattle.store.specs.Table.{get, put, insert, without}
 use Rattle.store.proofs.CipherLaws.{Laws}
 use Rattle.store.proofs.Keys.{make-stored, RemoveStep, remove-step}
 use Rattle.store.proofs.Stores.{Stored, Change}
@@ -28,9 +28,9 @@ use Rattle.seal_frame.specs.Seal.{seal}
 use Rattle.seal_frame.proofs.Seals.{next, SealStep, seal-step}
 use Rattle.open_frame.specs.Open.{opening}
 use Rattle.open_frame.proofs.Opened.{OpenStep, open-step}
-use Rattle.sframe.specs.History.{Call, Add, Remove, Seal, Open, Report, Typed, AllTyped, Opening, Event, added, sealed, opened, other, event, History, outcome, step, run, start}
+use Rattle.sframe.specs.History.{Call, Add, Remove, Seal, Open, Report, Find, Typed, AllTyped, Opening, Event, added, sealed, opened, other, event, History, outcome, step, run, start}
 use Rattle.sframe.specs.Promises.{AddedIn, OpenedOnce}
-use Rattle.sframe.proofs.Ledger.{happened, passed-by, report-store}
+use Rattle.sframe.proofs.Ledger.{happened, passed-by, find-store, report-store}
 
 -- ---- the words of it
 
@@ -140,24 +140,24 @@ module _ (cipher : Cipher) (laws : Laws cipher) where
       by : AddStep cipher (h .store) (v .table) role kid suite base (add cipher (h .store) role kid suite base) → Watch (step cipher (Add role kid suite base) h)
       by (AddStep.refused d e) = goes-by h v _ _ e (passed-by _ _ d)
       by (AddStep.done z known allowed free c st) =
-          puts h v _ _ (added (record { role = role; kid = kid; suite = suite; base = base })) kid (addedRecord cipher role kid suite base) (fill (addedRecord cipher role kid suite base) (v .table)) c st (happened _ _ z)
+          puts h v _ _ (added (record { role = role; kid = kid; suite = suite; base = base })) kid (addedRecord cipher role kid suite base) (insert (addedRecord cipher role kid suite base) (v .table)) c st (happened _ _ z)
           (λ k d. rw (ne-eqb kid k (λ e. d (sym e)))) (rw (eq-eqb kid kid refl) tt) (v .each)
-  watch-step (Remove kid) h q v = by (remove-step (h .store) (v .table) (v .is-stored) kid)
+  watch-step (Remove kid place) h q v = by (remove-step (h .store) (v .table) (v .is-stored) kid)
     where
-      by : RemoveStep (h .store) (v .table) kid (remove (h .store) kid) → Watch (step cipher (Remove kid) h)
+      by : RemoveStep (h .store) (v .table) kid (remove (h .store) kid) → Watch (step cipher (Remove kid place) h)
       by (RemoveStep.refused d e) = goes-by h v _ _ e refl
-      by (RemoveStep.freed r w z g c st) = puts h v _ other other kid empty (clear kid (v .table)) c st refl (λ k d. refl) (none-guarded (Guards empty) (λ c. tt) (since kid (h .log))) (v .each)
+      by (RemoveStep.freed r w z g c st) = puts h v _ other other kid empty (without kid (v .table)) c st refl (λ k d. refl) (none-guarded (Guards empty) (λ c. tt) (since kid (h .log))) (v .each)
       by (RemoveStep.closed r z g c st) =
           puts h v _ other other kid (kept (sending r)) (put kid (kept (sending r)) (v .table)) c st refl (λ k d. refl) (none-guarded (Guards (kept (sending r))) (λ c. tt) (since kid (h .log))) (v .each)
-  watch-step (Seal kid metadata plaintext offset room) h q v = by (seal-step cipher laws (h .store) (v .table) (v .is-stored) kid metadata plaintext offset room)
+  watch-step (Seal kid place metadata plaintext offset room) h q v = by (seal-step cipher laws (h .store) (v .table) (v .is-stored) kid metadata plaintext offset room)
     where
-      by : SealStep cipher (h .store) (v .table) kid metadata plaintext offset (seal cipher (h .store) kid metadata plaintext offset room) → Watch (step cipher (Seal kid metadata plaintext offset room) h)
+      by : SealStep cipher (h .store) (v .table) kid metadata plaintext offset (seal cipher (h .store) kid metadata plaintext offset room) → Watch (step cipher (Seal kid place metadata plaintext offset room) h)
       by (SealStep.refused d e) = goes-by h v _ _ e (passed-by _ _ d)
       by (SealStep.done r p) =
           puts h v _ _ (sealed _) kid (next r) (put kid (next r) (v .table)) (p .change) (p .store-is) (happened _ _ (p .answers)) (λ k d. refl) (none-guarded (Guards (next r)) (λ c. tt) (since kid (h .log))) (v .each)
-  watch-step (Open metadata bytes room) h q v = by (open-step cipher (h .store) (v .table) (v .is-stored) metadata bytes room (q .1))
+  watch-step (Open place metadata bytes room) h q v = by (open-step cipher (h .store) (v .table) (v .is-stored) metadata bytes room (q .1))
     where
-      by : OpenStep (h .store) (v .table) (readKid (readHeader bytes)) (readCtr (readHeader bytes)) (opening cipher (h .store) metadata bytes room) → Watch (step cipher (Open metadata bytes room) h)
+      by : OpenStep (h .store) (v .table) (readKid (readHeader bytes)) (readCtr (readHeader bytes)) (opening cipher (h .store) metadata bytes room) → Watch (step cipher (Open place metadata bytes room) h)
       by (OpenStep.refused d e) = goes-by h v _ _ e (passed-by _ _ d)
       by (OpenStep.done r w p) =
           let kid = readKid (readHeader bytes) in
@@ -169,6 +169,7 @@ module _ (cipher : Cipher) (laws : Laws cipher) where
           (rw (eq-eqb kid kid refl) (as-seen (moved-seen w ctr f (p .not-seen) (p .not-old)), all-map (Stops w) (Stops (moved w ctr)) (stops-on w ctr f (p .not-seen) (p .not-old)) (since kid (h .log)) g))
           (all-map (Stops w) (λ (c : ℕ). ctr ≡ c → ⊥) (not-stopped w ctr f (p .not-seen) (p .not-old)) (since kid (h .log)) g, v .each)
   watch-step (Report kid) h q v = goes-by h v _ _ (report-store (h .store) kid) refl
+  watch-step (Find kid) h q v = goes-by h v _ _ (find-store (h .store) kid) refl
 
   pub run-watch : (cs : List Call) (h : History) → AllTyped cs → Watch h → Watch (run cipher cs h)
   unfolding run

@@ -27,7 +27,7 @@ use Rattle.window.proofs.Laws.{old-unseen, fresh-opens}
 use Rattle.answers.proofs.Basics.{Two, yes′, no′, two, both-and, Pass, passes, none-applies, settled-done, settled-number}
 use Rattle.store.proofs.CipherLaws.{Laws, Usable}
 use Rattle.key_record.proofs.Codec.{Fit}
-use Rattle.store.proofs.Stores.{Stored, sound-stored, get-fit}
+use Rattle.store.proofs.Stores.{Stored, sound-stored, get-fit, kids-apart}
 use Rattle.store.proofs.Tables.{get-at}
 use Rattle.answers.specs.Limits.{maxPlaintext, maxMetadata, tooLong}
 use Rattle.open_frame.specs.Open.{plainOf, isDiffers, decrypted, plainLength, openCauses, causesOfOpen, openAt, opening}
@@ -172,7 +172,7 @@ holds-receiving r w = eq-eqb (r .kid) (r .kid) refl
 holds-get : (s : List ℕ) (r : ReceivingKey) (h : Holds s r) → get (r .kid) (records s) ≡ receiving r (h .window)
 holds-get s r h =
     let t = sound-stored s (h .octets) (h .is-sound) in
-    get-at (r .kid) (records s) (h .place) (t .table .kids-apart) (rw (h .holds-it) (holds-receiving r (h .window))) ∙ h .holds-it
+    get-at (r .kid) (records s) (h .place) (kids-apart (t .table)) (rw (h .holds-it) (holds-receiving r (h .window))) ∙ h .holds-it
 
 module _ (cipher : Cipher) (laws : Laws cipher) where
   -- opening succeeds exactly when the frame is the RFC's encryption of some plaintext under the held key, with the frame's own counter and header and the metadata given, and yields it

@@ -6,7 +6,7 @@ use Prim.Native.Nat.{ℕ, zero, suc, _/_}
 use lib.ListN.{length, replicate}
 use Rattle.octets.specs.Octets.{Octets}
 use Rattle.answers.specs.Answers.{Outcome, settled}
-use Rattle.store.specs.Calls.{make, removeAt, remove}
+use Rattle.store.specs.Calls.{make, removeAt, remove, find}
 use Rattle.add_key.specs.Add.{addAt, add}
 use Rattle.store.specs.Cipher.{Cipher}
 use Rattle.key_record.specs.Record.{KeyRecord, empty}
@@ -22,8 +22,8 @@ use Rattle.report_window.specs.Report.{report}
 use Rattle.header.specs.Answers.{readKid, readCtr}
 use Rattle.header.specs.Header.{readHeader}
 use Rattle.sframe.specs.Promises.{Unchanged}
-use Rattle.sframe.specs.History.{Call, Add, Remove, Seal, Open, Report, Typed, outcome}
-use Rattle.sframe.proofs.Ledger.{report-store}
+use Rattle.sframe.specs.History.{Call, Add, Remove, Seal, Open, Report, Find, Typed, outcome}
+use Rattle.sframe.proofs.Ledger.{find-store, report-store}
 use Rattle.seal_frame.proofs.Seals.{SealStep, seal-step}
 
 -- bytes that are a table are a sound store
@@ -41,24 +41,25 @@ module _ (cipher : Cipher) (laws : Laws cipher) where
       by : (x : Outcome) → AddStep cipher s (records s) role kid suite base x → Octets (x .store) × (sound (x .store) ≡ true)
       by x (AddStep.done z k a f c t) = sound-bytes (x .store) _ t
       by x (AddStep.refused d p) = rw p (o, e)
-  call-sound (Remove kid) s q o e = by (remove s kid) (remove-step s (records s) (sound-stored s o e) kid)
+  call-sound (Remove kid place) s q o e = by (remove s kid) (remove-step s (records s) (sound-stored s o e) kid)
     where
       by : (x : Outcome) → RemoveStep s (records s) kid x → Octets (x .store) × (sound (x .store) ≡ true)
       by x (RemoveStep.freed r w z g c t) = sound-bytes (x .store) _ t
       by x (RemoveStep.closed r z g c t) = sound-bytes (x .store) _ t
       by x (RemoveStep.refused d p) = rw p (o, e)
-  call-sound (Seal kid metadata plaintext offset room) s q o e =
+  call-sound (Seal kid place metadata plaintext offset room) s q o e =
       by (seal cipher s kid metadata plaintext offset room) (seal-step cipher laws s (records s) (sound-stored s o e) kid metadata plaintext offset room)
     where
       by : (x : Outcome) → SealStep cipher s (records s) kid metadata plaintext offset x → Octets (x .store) × (sound (x .store) ≡ true)
       by x (SealStep.done r p) = sound-bytes (x .store) _ (p .store-is)
       by x (SealStep.refused d p) = rw p (o, e)
-  call-sound (Open metadata bytes room) s q o e = by (opening cipher s metadata bytes room) (open-step cipher s (records s) (sound-stored s o e) metadata bytes room (q .1))
+  call-sound (Open place metadata bytes room) s q o e = by (opening cipher s metadata bytes room) (open-step cipher s (records s) (sound-stored s o e) metadata bytes room (q .1))
     where
       by : (x : Outcome) → OpenStep s (records s) (readKid (readHeader bytes)) (readCtr (readHeader bytes)) x → Octets (x .store) × (sound (x .store) ≡ true)
       by x (OpenStep.done r w p) = sound-bytes (x .store) _ (p .store-is)
       by x (OpenStep.refused d p) = rw p (o, e)
   call-sound (Report kid) s q o e = rw (report-store s kid) (o, e)
+  call-sound (Find kid) s q o e = rw (find-store s kid) (o, e)
 
 -- ---- refusals
 
@@ -70,9 +71,10 @@ unchanged (suc n) s room o z d = (refl, refl, refl)
 
 -- of any store, sound or not
 pub refusal-changes-nothing : (cipher : Cipher) (c : Call) (s : List ℕ) → (outcome cipher c s .number ≡ 0 → ⊥) → Unchanged c s (outcome cipher c s)
-unfolding outcome add addAt remove removeAt seal sealAt opening openAt report
+unfolding outcome add addAt remove removeAt seal sealAt opening openAt report find
 refusal-changes-nothing cipher (Add role kid suite base) s d = let u = unchanged _ s [] _ refl d in record { nothing-written = u .0; store-stays = u .1; room-stays = u .2 }
-refusal-changes-nothing cipher (Remove kid) s d = let u = unchanged _ s [] _ refl d in record { nothing-written = u .0; store-stays = u .1; room-stays = u .2 }
-refusal-changes-nothing cipher (Seal kid metadata plaintext offset room) s d = let u = unchanged _ s room _ refl d in record { nothing-written = u .0; store-stays = u .1; room-stays = u .2 }
-refusal-changes-nothing cipher (Open metadata bytes room) s d = let u = unchanged _ s room _ refl d in record { nothing-written = u .0; store-stays = u .1; room-stays = u .2 }
+refusal-changes-nothing cipher (Remove kid place) s d = let u = unchanged _ s [] _ refl d in record { nothing-written = u .0; store-stays = u .1; room-stays = u .2 }
+refusal-changes-nothing cipher (Seal kid place metadata plaintext offset room) s d = let u = unchanged _ s room _ refl d in record { nothing-written = u .0; store-stays = u .1; room-stays = u .2 }
+refusal-changes-nothing cipher (Open place metadata bytes room) s d = let u = unchanged _ s room _ refl d in record { nothing-written = u .0; store-stays = u .1; room-stays = u .2 }
 refusal-changes-nothing cipher (Report kid) s d = let u = unchanged _ s [] _ refl d in record { nothing-written = u .0; store-stays = u .1; room-stays = u .2 }
+refusal-changes-nothing cipher (Find kid) s d = let u = unchanged _ s [] _ refl d in record { nothing-written = u .0; store-stays = u .1; room-stays = u .2 }

@@ -84,12 +84,12 @@ pub window-fresh : (s metadata bytes room : List ℕ) (r : ReceivingKey) (ctr n 
 window-fresh = fresh-passes sframe suites-laws
 
 -- Sealing and opening depend on other records only through soundness, and change none of them.
-pub sealing-alone : (s t : List ℕ) (kid place : ℕ) → Alike s t kid place → (metadata plaintext : List ℕ) (offset : ℕ) (room : List ℕ)
-    → SameAnswer s t place (seal sframe s kid metadata plaintext offset room) (seal sframe t kid metadata plaintext offset room)
+pub sealing-alone : (s t : List ℕ) (kid i j : ℕ) → Alike s t kid i j → (metadata plaintext : List ℕ) (offset : ℕ) (room : List ℕ)
+    → SameAnswer s t i j (seal sframe s kid metadata plaintext offset room) (seal sframe t kid metadata plaintext offset room)
 sealing-alone = neighbours-seal sframe suites-laws
 
-pub opening-alone : (s t : List ℕ) (place : ℕ) (metadata bytes room : List ℕ) → Octets bytes → Alike s t (readKid (readHeader bytes)) place
-    → SameAnswer s t place (opening sframe s metadata bytes room) (opening sframe t metadata bytes room)
+pub opening-alone : (s t : List ℕ) (i j : ℕ) (metadata bytes room : List ℕ) → Octets bytes → Alike s t (readKid (readHeader bytes)) i j
+    → SameAnswer s t i j (opening sframe s metadata bytes room) (opening sframe t metadata bytes room)
 opening-alone = neighbours-open sframe
 
 -- Every call leaves a sound store sound.

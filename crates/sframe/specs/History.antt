@@ -8,7 +8,7 @@ use Rattle.octets.specs.Octets.{Octets, pick}
 use Rattle.header.specs.Answers.{readKid, readCtr}
 use Rattle.header.specs.Header.{readHeader}
 use Rattle.answers.specs.Answers.{Outcome}
-use Rattle.store.specs.Calls.{make, remove}
+use Rattle.store.specs.Calls.{make, remove, find}
 use Rattle.add_key.specs.Add.{add}
 use Rattle.store.specs.Cipher.{Cipher}
 use Rattle.seal_frame.specs.Seal.{seal}
@@ -16,29 +16,32 @@ use Rattle.open_frame.specs.Open.{opening}
 use Rattle.report_window.specs.Report.{report}
 use Rattle.key_record.specs.declared.Role.{Role}
 
--- A call with its inputs and its room.
+-- A call with its inputs and its room. A place is any number: what a call does has no use for it.
 pub data Call : Type 0 where
   Add : (role : Role) (kid suite : ℕ) (base : List ℕ) → Call
-  Remove : (kid : ℕ) → Call
-  Seal : (kid : ℕ) (metadata plaintext : List ℕ) (offset : ℕ) (room : List ℕ) → Call
-  Open : (metadata frame room : List ℕ) → Call
+  Remove : (kid place : ℕ) → Call
+  Seal : (kid place : ℕ) (metadata plaintext : List ℕ) (offset : ℕ) (room : List ℕ) → Call
+  Open : (place : ℕ) (metadata frame room : List ℕ) → Call
   Report : (kid : ℕ) → Call
+  Find : (kid : ℕ) → Call
 
 -- The inputs are what the types of the code admit: a KID has 64 bits, everything lent is bytes.
 abbrev pub Typed : Call → Type 0
 Typed (Add role kid suite base) = (kid < 2 ^ 64) × Octets base
-Typed (Remove kid) = kid < 2 ^ 64
-Typed (Seal kid metadata plaintext offset room) = (kid < 2 ^ 64) × Octets metadata × Octets plaintext × Octets room
-Typed (Open metadata frame room) = Octets metadata × Octets frame × Octets room
+Typed (Remove kid place) = kid < 2 ^ 64
+Typed (Seal kid place metadata plaintext offset room) = (kid < 2 ^ 64) × Octets metadata × Octets plaintext × Octets room
+Typed (Open place metadata frame room) = Octets metadata × Octets frame × Octets room
 Typed (Report kid) = kid < 2 ^ 64
+Typed (Find kid) = kid < 2 ^ 64
 
 -- The room that a call is lent.
 abbrev pub roomOf : Call → List ℕ
 roomOf (Add role kid suite base) = []
-roomOf (Remove kid) = []
-roomOf (Seal kid metadata plaintext offset room) = room
-roomOf (Open metadata frame room) = room
+roomOf (Remove kid place) = []
+roomOf (Seal kid place metadata plaintext offset room) = room
+roomOf (Open place metadata frame room) = room
 roomOf (Report kid) = []
+roomOf (Find kid) = []
 
 abbrev pub AllTyped : List Call → Type 0
 AllTyped [] = Unit {0}
@@ -62,7 +65,7 @@ pub record Opening : Type 0 where
   pub kid : ℕ
   pub ctr : ℕ
 
--- What a call yields; every refused call, every Remove and every Report is one of the others.
+-- What a call yields; every refused call, every Remove, every Report and every Find is one of the others.
 pub data Event : Type 0 where
   added : Adding → Event
   sealed : Sealing → Event
@@ -71,10 +74,11 @@ pub data Event : Type 0 where
 
 unfoldable pub event : Call → Outcome → Event
 event (Add role kid suite base) o = pick (eqb (o .number) 0) (added (record { role = role; kid = kid; suite = suite; base = base })) other
-event (Remove kid) o = other
-event (Seal kid metadata plaintext offset room) o = pick (eqb (o .number) 0) (sealed (record { metadata = metadata; plaintext = plaintext; frame = take (o .written) (drop offset (o .room)) })) other
-event (Open metadata frame room) o = pick (eqb (o .number) 0) (opened (record { kid = readKid (readHeader frame); ctr = readCtr (readHeader frame) })) other
+event (Remove kid place) o = other
+event (Seal kid place metadata plaintext offset room) o = pick (eqb (o .number) 0) (sealed (record { metadata = metadata; plaintext = plaintext; frame = take (o .written) (drop offset (o .room)) })) other
+event (Open place metadata frame room) o = pick (eqb (o .number) 0) (opened (record { kid = readKid (readHeader frame); ctr = readCtr (readHeader frame) })) other
 event (Report kid) o = other
+event (Find kid) o = other
 
 -- The store, and the events so far, the newest first.
 pub record History : Type 0 where
@@ -84,10 +88,11 @@ pub record History : Type 0 where
 module _ (cipher : Cipher) where
   unfoldable pub outcome : Call → List ℕ → Outcome
   outcome (Add role kid suite base) s = add cipher s role kid suite base
-  outcome (Remove kid) s = remove s kid
-  outcome (Seal kid metadata plaintext offset room) s = seal cipher s kid metadata plaintext offset room
-  outcome (Open metadata frame room) s = opening cipher s metadata frame room
+  outcome (Remove kid place) s = remove s kid
+  outcome (Seal kid place metadata plaintext offset room) s = seal cipher s kid metadata plaintext offset room
+  outcome (Open place metadata frame room) s = opening cipher s metadata frame room
   outcome (Report kid) s = report s kid
+  outcome (Find kid) s = find s kid
 
   unfoldable pub step : Call → History → History
   step c h =

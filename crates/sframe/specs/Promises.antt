@@ -179,14 +179,14 @@ OpenedOnce log = (later between earlier : List Event) (x y : Opening) → log �
 
 -- ---- neighbours in one store
 
--- Two sound stores with the record of a KID alike at the same place, whatever the rest of each holds.
-pub record Alike (s t : List ℕ) (kid place : ℕ) : Type 0 where
+-- Two sound stores with the record of a KID alike, at place i of one and j of the other, whatever the rest of each holds.
+pub record Alike (s t : List ℕ) (kid i j : ℕ) : Type 0 where
   pub s-octets : Octets s
   pub s-sound : sound s ≡ true
   pub t-octets : Octets t
   pub t-sound : sound t ≡ true
-  pub holds-kid : holds kid (getD (records s) place empty) ≡ true
-  pub alike : getD (records s) place empty ≡ getD (records t) place empty
+  pub holds-kid : holds kid (getD (records s) i empty) ≡ true
+  pub alike : getD (records s) i empty ≡ getD (records t) j empty
 
 -- No record but the one at that place is another after a call.
 pub record OthersStay (s : List ℕ) (o : Outcome) (place : ℕ) : Type 0 where
@@ -194,10 +194,10 @@ pub record OthersStay (s : List ℕ) (o : Outcome) (place : ℕ) : Type 0 where
   pub others-stay : (j : ℕ) → (j ≡ place → ⊥) → getD (records (o .store)) j empty ≡ getD (records s) j empty
 
 -- One call on both stores: what it answers, writes and makes of the record is alike, and the other records stay.
-pub record SameAnswer (s t : List ℕ) (place : ℕ) (o p : Outcome) : Type 0 where
+pub record SameAnswer (s t : List ℕ) (i j : ℕ) (o p : Outcome) : Type 0 where
   pub same-number : o .number ≡ p .number
   pub same-length : o .written ≡ p .written
   pub same-room : o .room ≡ p .room
-  pub same-record : getD (records (o .store)) place empty ≡ getD (records (p .store)) place empty
-  pub s-others : OthersStay s o place
-  pub t-others : OthersStay t p place
+  pub same-record : getD (records (o .store)) i empty ≡ getD (records (p .store)) j empty
+  pub s-others : OthersStay s o i
+  pub t-others : OthersStay t p j

@@ -4,7 +4,7 @@
 ghost use mathlib.Core.Path.{_≡_};
 ghost use Rattle.header.specs.Header.{writeHeader, readHeader};
 ghost use Rattle.header.specs.Answers.{writtenNumber, writtenLength, readNumber, readKid, readCtr, readLength};
-ghost use Rattle.store.specs.Calls.{make, remove};
+ghost use Rattle.store.specs.Calls.{make, remove, find, found};
 ghost use Rattle.store.specs.Sframe.{sframe};
 ghost use Rattle.key_record.specs.declared.Role.the-variants.{Sending, Receiving};
 ghost use Rattle.add_key.specs.Add.{add};
@@ -20,6 +20,9 @@ use header::Kid;
 use header::Reading;
 use header::Written;
 use key_record::Role;
+
+// Where a caller that names no place is taken to believe the record: at the front of the store.
+const FRONT: usize = 0;
 
 // Hands over what writing a header answers.
 fn hand_over(written: Written, length: &mut usize) -> u32
@@ -121,7 +124,16 @@ pub extern "C" fn sframe_remove(store: &mut [u8], kid: u64) -> u32
     ensures { λ r. ⌜ r ≡ remove (now (store .entry)) kid .number ⌝ }
     ensures { λ r. ⌜ now (store .exit) ≡ remove (now (store .entry)) kid .store ⌝ }
 {
-    store::remove(store, Kid(kid))
+    store::remove(store, Kid(kid), FRONT)
+}
+
+// The same, with the place where the record is believed to stand.
+#[no_mangle]
+pub extern "C" fn sframe_remove_near(store: &mut [u8], kid: u64, place: usize) -> u32
+    ensures { λ r. ⌜ r ≡ remove (now (store .entry)) kid .number ⌝ }
+    ensures { λ r. ⌜ now (store .exit) ≡ remove (now (store .entry)) kid .store ⌝ }
+{
+    store::remove(store, Kid(kid), place)
 }
 
 #[no_mangle]
@@ -138,7 +150,7 @@ pub extern "C" fn sframe_seal(
     ensures { λ r. ⌜ now (store .exit) ≡ seal sframe (now (store .entry)) kid (now (metadata .entry)) (now (plaintext .entry)) 0 (now (out .entry)) .store ⌝ }
     ensures { λ r. ⌜ now (out .exit) ≡ seal sframe (now (store .entry)) kid (now (metadata .entry)) (now (plaintext .entry)) 0 (now (out .entry)) .room ⌝ }
 {
-    let answer = seal_frame::seal(store, Kid(kid), metadata, plaintext, out);
+    let answer = seal_frame::seal(store, Kid(kid), FRONT, metadata, plaintext, out);
     *length = answer.length;
     answer.number
 }
@@ -158,7 +170,29 @@ pub extern "C" fn sframe_seal_at(
     ensures { λ r. ⌜ now (store .exit) ≡ seal sframe (now (store .entry)) kid (now (metadata .entry)) (now (plaintext .entry)) offset (now (out .entry)) .store ⌝ }
     ensures { λ r. ⌜ now (out .exit) ≡ seal sframe (now (store .entry)) kid (now (metadata .entry)) (now (plaintext .entry)) offset (now (out .entry)) .room ⌝ }
 {
-    let answer = seal_frame::seal_at(store, Kid(kid), metadata, plaintext, out, offset);
+    let answer = seal_frame::seal_at(store, Kid(kid), FRONT, metadata, plaintext, out, offset);
+    *length = answer.length;
+    answer.number
+}
+
+// The same, with the place where the record is believed to stand.
+#[no_mangle]
+pub extern "C" fn sframe_seal_near(
+    store: &mut [u8],
+    kid: u64,
+    place: usize,
+    metadata: &[u8],
+    plaintext: &[u8],
+    out: &mut [u8],
+    offset: usize,
+    length: &mut usize,
+) -> u32
+    ensures { λ r. ⌜ r ≡ seal sframe (now (store .entry)) kid (now (metadata .entry)) (now (plaintext .entry)) offset (now (out .entry)) .number ⌝ }
+    ensures { λ r. ⌜ now (length .exit) ≡ seal sframe (now (store .entry)) kid (now (metadata .entry)) (now (plaintext .entry)) offset (now (out .entry)) .written ⌝ }
+    ensures { λ r. ⌜ now (store .exit) ≡ seal sframe (now (store .entry)) kid (now (metadata .entry)) (now (plaintext .entry)) offset (now (out .entry)) .store ⌝ }
+    ensures { λ r. ⌜ now (out .exit) ≡ seal sframe (now (store .entry)) kid (now (metadata .entry)) (now (plaintext .entry)) offset (now (out .entry)) .room ⌝ }
+{
+    let answer = seal_frame::seal_at(store, Kid(kid), place, metadata, plaintext, out, offset);
     *length = answer.length;
     answer.number
 }
@@ -176,8 +210,39 @@ pub extern "C" fn sframe_open(
     ensures { λ r. ⌜ now (store .exit) ≡ opening sframe (now (store .entry)) (now (metadata .entry)) (now (frame .entry)) (now (out .entry)) .store ⌝ }
     ensures { λ r. ⌜ now (out .exit) ≡ opening sframe (now (store .entry)) (now (metadata .entry)) (now (frame .entry)) (now (out .entry)) .room ⌝ }
 {
-    let answer = open_frame::open(store, frame, metadata, out);
+    let answer = open_frame::open(store, FRONT, frame, metadata, out);
     *length = answer.length;
+    answer.number
+}
+
+// The same, with the place where the record is believed to stand.
+#[no_mangle]
+pub extern "C" fn sframe_open_near(
+    store: &mut [u8],
+    place: usize,
+    frame: &[u8],
+    metadata: &[u8],
+    out: &mut [u8],
+    length: &mut usize,
+) -> u32
+    ensures { λ r. ⌜ r ≡ opening sframe (now (store .entry)) (now (metadata .entry)) (now (frame .entry)) (now (out .entry)) .number ⌝ }
+    ensures { λ r. ⌜ now (length .exit) ≡ opening sframe (now (store .entry)) (now (metadata .entry)) (now (frame .entry)) (now (out .entry)) .written ⌝ }
+    ensures { λ r. ⌜ now (store .exit) ≡ opening sframe (now (store .entry)) (now (metadata .entry)) (now (frame .entry)) (now (out .entry)) .store ⌝ }
+    ensures { λ r. ⌜ now (out .exit) ≡ opening sframe (now (store .entry)) (now (metadata .entry)) (now (frame .entry)) (now (out .entry)) .room ⌝ }
+{
+    let answer = open_frame::open(store, place, frame, metadata, out);
+    *length = answer.length;
+    answer.number
+}
+
+// The place of a key's record, for the calls that take one.
+#[no_mangle]
+pub extern "C" fn sframe_find(store: &[u8], kid: u64, place: &mut usize) -> u32
+    ensures { λ r. ⌜ r ≡ find (now (store .entry)) kid .number ⌝ }
+    ensures { λ r. ⌜ now (place .exit) ≡ found (now (store .entry)) kid ⌝ }
+{
+    let answer = store::locate(store, Kid(kid));
+    *place = answer.place;
     answer.number
 }
 

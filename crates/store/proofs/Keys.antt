@@ -13,13 +13,13 @@ use Rattle.store.specs.Calls.{stored, make, removed, removeCauses, remov
 use Rattle.key_record.specs.inner.Rows.{kept}
 use Rattle.store.specs.Cipher.{Cipher}
 use Rattle.key_record.specs.Layout.{recordSize, encode}
-use Rattle.key_record.specs.Record.{SendingKey, ReceivingKey, KeyRecord, empty, sending, receiving, retired, isEmpty, holds}
+use Rattle.key_record.specs.Record.{SendingKey, ReceivingKey, KeyRecord, empty, sending, receiving, retired, isEmpty, holds, inOrder}
 use Rattle.store.specs.Store.{lengthRight, encodeAll}
-use Rattle.store.specs.Table.{get, put, clear, fill, apart}
+use Rattle.store.specs.Table.{get, put, without, orderedFrom, ordered}
 use Rattle.answers.proofs.Basics.{Settled, success, refusal, settle}
 use Rattle.store.proofs.CipherLaws.{Laws}
 use Rattle.key_record.proofs.Codec.{Secret, Fit}
-use Rattle.store.proofs.Stores.{AllFit, Table, length-right, Stored, stored-sound, stored-records, Change, put-change, clear-change, fill-change, get-fit}
+use Rattle.store.proofs.Stores.{AllFit, Table, length-right, Stored, stored-sound, stored-records, Change, put-change, without-change, get-fit}
 use Rattle.store.proofs.Tables.{get-holds, empty-is}
 use Rattle.key_record.specs.declared.Role.{Role}
 use Rattle.key_record.specs.declared.Role.the-variants.{Sending, Receiving}
@@ -41,10 +41,15 @@ empties-fit : (n : ℕ) → AllFit (replicate n empty)
 empties-fit zero = tt
 empties-fit (suc n) = (tt, empties-fit n)
 
-empties-apart : (n : ℕ) → apart (replicate n empty) ≡ true
-unfolding apart Rattle.store.specs.Table.alone
-empties-apart zero = refl
-empties-apart (suc n) = empties-apart n
+empties-from : (n : ℕ) → orderedFrom empty (replicate n empty) ≡ true
+unfolding orderedFrom inOrder
+empties-from zero = refl
+empties-from (suc n) = empties-from n
+
+empties-ordered : (n : ℕ) → ordered (replicate n empty) ≡ true
+unfolding ordered
+empties-ordered zero = refl
+empties-ordered (suc n) = empties-from n
 
 pub empties-get : (kid n : ℕ) → get kid (replicate n empty) ≡ empty
 unfolding get holds
@@ -72,7 +77,7 @@ make-stored s e = record { count = length s / recordSize; is-stored = by (settle
         record {
           table = record {
             fit = empties-fit n;
-            kids-apart = empties-apart n;
+            in-order = empties-ordered n;
             some = omega (arith, r .least);
             most = omega (arith, r .most);
           };
@@ -82,7 +87,7 @@ make-stored s e = record { count = length s / recordSize; is-stored = by (settle
 -- ---- Remove
 
 pub data RemoveStep (s : List ℕ) (rs : List KeyRecord) (kid : ℕ) (o : Outcome) : Type 0 where
-  freed : (r : ReceivingKey) (w : Window) → o .number ≡ 0 → get kid rs ≡ receiving r w → Change kid empty rs (clear kid rs) → Stored (o .store) (clear kid rs) → RemoveStep s rs kid o
+  freed : (r : ReceivingKey) (w : Window) → o .number ≡ 0 → get kid rs ≡ receiving r w → Change kid empty rs (without kid rs) → Stored (o .store) (without kid rs) → RemoveStep s rs kid o
   closed : (r : SendingKey) → o .number ≡ 0 → get kid rs ≡ sending r → Change kid (kept (sending r)) rs (put kid (kept (sending r)) rs) → Stored (o .store) (put kid (kept (sending r)) rs) → RemoveStep s rs kid o
   refused : (o .number ≡ 0 → ⊥) → o .store ≡ s → RemoveStep s rs kid o
 
@@ -108,7 +113,7 @@ module _ (s : List ℕ) (rs : List KeyRecord) (t : Stored s rs) where
       by o empty g (success p q) = absurd (false≢true (sym (p .1 .0)))
       by o (retired r) g (success p q) = absurd (false≢true (sym (p .1 .1 .0)))
       by o (receiving r w) g (success p q) =
-          let c = clear-change kid rs (t .table) in
+          let c = without-change kid rs (t .table) in
           freed r w (ap (λ (x : Outcome). x .number) q) g c (record { table = c .table; bytes-are = sym (ap (λ (x : Outcome). x .store) q) })
       by o (sending r) g (success p q) =
           let f : Fit (sending r) = rw g at (get-fit kid rs (t .table .fit)) in

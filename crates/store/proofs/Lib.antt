@@ -1,5 +1,8 @@
 pub mod CipherLaws
+mod Finds
 pub mod Keys
+mod Moves
+pub mod Order
 pub mod Places
 mod Removal
 pub mod Stores

@@ -12,14 +12,16 @@ use Rattle.store.specs.Calls.{stored, make, removed, removeCauses, remov
 use Rattle.key_record.specs.Record.{KeyRecord, empty, sending, receiving, retired, isSending, holds}
 use Rattle.store.specs.Store.{lengthRight, encodeAll, records, sound}
 use Rattle.store.specs.Table.{get, apart, FoundIn}
+use Rattle.store.specs.inner.Places.{closed}
 use Rattle.key_record.specs.inner.Rows.{kindOf, kept}
 use Rattle.key_record.specs.declared.Kind.{Kind}
 use Rattle.key_record.specs.declared.Kind.the-variants.{Empty, Sender, Receiver, Retired}
 use Rattle.store.specs.declared.Place.{Place}
 use Rattle.store.specs.declared.Place.the-variants.{At, Nowhere}
 use Rattle.key_record.proofs.KindLaws.{kind-sends}
-use Rattle.store.proofs.Stores.{sound-stored}
-use Rattle.store.proofs.Tables.{clear-at, put-at}
+use Rattle.store.proofs.Stores.{sound-stored, kids-apart}
+use Rattle.store.proofs.Tables.{put-at}
+use Rattle.store.proofs.Order.{without-at}
 
 -- ---- Make
 
@@ -57,7 +59,7 @@ module _ (s : List ℕ) (kid : ℕ) (is-sound : sound s ≡ true) where
     found = rw w at f
 
     apart-kids : apart (records s) ≡ true
-    apart-kids = sound-stored s o is-sound .table .kids-apart
+    apart-kids = kids-apart (sound-stored s o is-sound .table)
 
     pub remove-empty : k ≡ Empty → ⊥
     unfolding holds
@@ -79,7 +81,7 @@ module _ (s : List ℕ) (kid : ℕ) (is-sound : sound s ≡ true) where
         by (receiving x w) g e = let z : _≡_ {A = ℕ} 0 1 = cc in absurd (omega arith)
         by (retired x) g e = let y = outcome-of (retired x) g in (sym (ap (λ (x : Outcome). x .number) y), sym (ap (λ (x : Outcome). x .store) y))
 
-    pub remove-receiving : (x : List ℕ) → k ≡ Receiver → x ≡ encodeAll (set (records s) i empty) → (done ≡ remove s kid .number) × (x ≡ remove s kid .store)
+    pub remove-receiving : (x : List ℕ) → k ≡ Receiver → x ≡ encodeAll (closed i (records s)) → (done ≡ remove s kid .number) × (x ≡ remove s kid .store)
     unfolding removeCauses removed first settled
     remove-receiving x z a = by (getD (records s) i empty) (found .1) (sym is ∙ z)
       where
@@ -89,7 +91,7 @@ module _ (s : List ℕ) (kid : ℕ) (is-sound : sound s ≡ true) where
         by (retired y) g e = let z : _≡_ {A = ℕ} 0 1 = cc in absurd (omega arith)
         by (receiving y w) g e =
             let v = outcome-of (receiving y w) g in
-            (sym (ap (λ (x : Outcome). x .number) v), a ∙ ap encodeAll (sym (clear-at kid (records s) i apart-kids (found .2))) ∙ sym (ap (λ (x : Outcome). x .store) v))
+            (sym (ap (λ (x : Outcome). x .number) v), a ∙ ap encodeAll (sym (without-at kid (records s) i (sound-stored s o is-sound .table .in-order) (found .2))) ∙ sym (ap (λ (x : Outcome). x .store) v))
 
     pub sender-sends : k ≡ Sender → isSending (getD (records s) i empty) ≡ true
     sender-sends z = kind-sends (getD (records s) i empty) (sym is ∙ z)

@@ -12,12 +12,13 @@ use borrow.Author.Tests.{leb-true, le-leb, eq-eqb, eqb-true}
 use Rattle.octets.specs.Octets.{Octets, both}
 use Rattle.octets.proofs.Laws.{octets-append, octets-take, octets-drop}
 use Rattle.key_record.specs.Layout.{recordSize, encode, decode, obeys}
-use Rattle.key_record.specs.Record.{KeyRecord, empty, isEmpty, holds}
+use Rattle.key_record.specs.Record.{KeyRecord, empty, isEmpty, holds, inOrder}
 use Rattle.store.specs.Store.{maxRecords, lengthRight, encodeAll, decodeAll, allObey, records, sound}
-use Rattle.store.specs.Table.{get, replace, put, clear, fill, full, apart}
+use Rattle.store.specs.Table.{get, put, insert, without, full, ordered, apart}
 use Rattle.answers.proofs.Basics.{Two, yes′, no′, two, both-true, both-and}
 use Rattle.key_record.proofs.Codec.{Fit, encode-length, encode-octets, decode-encode, obeys-fits, fits-obeys}
-use Rattle.store.proofs.Tables.{replace-length, put-same, put-other, put-apart, clear-same, clear-other, clear-apart, fill-same, fill-other, fill-apart}
+use Rattle.store.proofs.Tables.{empty-is, put-length, put-same, put-other}
+use Rattle.store.proofs.Order.{ordered-apart, put-ordered, insert-length, insert-ordered, insert-same, insert-other, without-length, without-ordered, without-same, without-other}
 
 abbrev pub AllFit : List KeyRecord → Type 0
 AllFit [] = Unit {0}
@@ -26,9 +27,13 @@ AllFit (r ∷ rs) = Fit r × AllFit rs
 -- the records of a sound store
 pub record Table (rs : List KeyRecord) : Type 0 where
   pub fit : AllFit rs
-  pub kids-apart : apart rs ≡ true
+  pub in-order : ordered rs ≡ true
   pub some : 1 ≤ length rs
   pub most : length rs ≤ maxRecords
+
+-- no two of them share a Key ID
+pub kids-apart : {rs : List KeyRecord} → Table rs → apart rs ≡ true
+kids-apart {rs} t = ordered-apart rs (t .in-order)
 
 pub record Right (n : ℕ) : Type 0 where
   pub least : recordSize ≤ n
@@ -97,12 +102,12 @@ pub sound-table : (s : List ℕ) → Octets s → sound s ≡ true → Table (re
 unfolding sound records
 sound-table s o e =
     let n = length s / recordSize in
-    let a = both-true (lengthRight (length s)) (both (allObey n s) (apart (decodeAll n s))) e in
-    let b = both-true (allObey n s) (apart (decodeAll n s)) (a .1) in
+    let a = both-true (lengthRight (length s)) (both (allObey n s) (ordered (decodeAll n s))) e in
+    let b = both-true (allObey n s) (ordered (decodeAll n s)) (a .1) in
     let r = length-right (length s) (a .0) in
     let all = obey-all n s o (omega (arith, r .whole)) (b .0) in
     let l = all .2 in
-    (record { fit = all .0; kids-apart = b .1; some = omega (arith, r .least); most = omega (arith, r .most) }, all .1)
+    (record { fit = all .0; in-order = b .1; some = omega (arith, r .least); most = omega (arith, r .most) }, all .1)
 
 pub table-records : (rs : List KeyRecord) → AllFit rs → records (encodeAll rs) ≡ rs
 unfolding records
@@ -118,7 +123,7 @@ table-sound rs t =
     let q : length (encodeAll rs) / recordSize ≡ length rs = omega arith in
     both-and _ _
     (right-length (length (encodeAll rs)) (record { least = omega (arith, t .some); most = omega (arith, t .most); whole = omega arith }))
-    (both-and _ _ (ap (λ (k : ℕ). allObey k (encodeAll rs)) q ∙ all-obey rs (t .fit)) (ap apart (table-records rs (t .fit)) ∙ t .kids-apart))
+    (both-and _ _ (ap (λ (k : ℕ). allObey k (encodeAll rs)) q ∙ all-obey rs (t .fit)) (ap ordered (table-records rs (t .fit)) ∙ t .in-order))
 
 -- ---- a store and its table
 
@@ -153,7 +158,7 @@ stored-lengths s t rs ts a b e = stored-length s rs a ∙ ap (λ (k : ℕ). k * 
 up : (i : ℕ) → suc i * recordSize ≡ recordSize + i * recordSize
 up i = omega arith
 
-past-one : (x : KeyRecord) (rs : List KeyRecord) (i : ℕ) → Fit x → drop (suc i * recordSize) (encode x ++ encodeAll rs) ≡ drop (i * recordSize) (encodeAll rs)
+pub past-one : (x : KeyRecord) (rs : List KeyRecord) (i : ℕ) → Fit x → drop (suc i * recordSize) (encode x ++ encodeAll rs) ≡ drop (i * recordSize) (encodeAll rs)
 past-one x rs i f =
     ap (λ (k : ℕ). drop k (encode x ++ encodeAll rs)) (up i)
     ∙ sym (drop-drop (i * recordSize) recordSize (encode x ++ encodeAll rs))
@@ -197,13 +202,40 @@ pub record Change (kid : ℕ) (new : KeyRecord) (rs rs′ : List KeyRecord) : Ty
   pub at-kid : get kid rs′ ≡ new
   pub elsewhere : (k : ℕ) → (k ≡ kid → ⊥) → get k rs′ ≡ get k rs
 
-replace-fit : (test : KeyRecord → Bool) (r : KeyRecord) (rs : List KeyRecord) → Fit r → AllFit rs → AllFit (replace test r rs)
-unfolding replace
-replace-fit test r [] f a = tt
-replace-fit test r (x ∷ xs) f a = by (two (test x)) (replace-fit test r xs f (a .1))
+take-fit : (n : ℕ) (rs : List KeyRecord) → AllFit rs → AllFit (take n rs)
+take-fit zero rs a = tt
+take-fit (suc n) [] a = tt
+take-fit (suc n) (x ∷ xs) a = (a .0, take-fit n xs (a .1))
+
+snoc-fit : (rs : List KeyRecord) → AllFit rs → AllFit (rs ++ (empty ∷ []))
+snoc-fit [] a = (tt, tt)
+snoc-fit (x ∷ xs) a = (a .0, snoc-fit xs (a .1))
+
+put-fit : (kid : ℕ) (r : KeyRecord) (rs : List KeyRecord) → Fit r → AllFit rs → AllFit (put kid r rs)
+unfolding put
+put-fit kid r [] f a = tt
+put-fit kid r (x ∷ xs) f a = by (two (holds kid x)) (put-fit kid r xs f (a .1))
   where
-    by : Two (test x) → AllFit (replace test r xs) → AllFit (replace test r (x ∷ xs))
+    by : Two (holds kid x) → AllFit (put kid r xs) → AllFit (put kid r (x ∷ xs))
     by (yes′ t) g = rw t (f, a .1)
+    by (no′ t) g = rw t (a .0, g)
+
+insert-fit : (r : KeyRecord) (rs : List KeyRecord) → Fit r → AllFit rs → AllFit (insert r rs)
+unfolding insert
+insert-fit r [] f a = tt
+insert-fit r (x ∷ xs) f a = by (two (inOrder r x)) (insert-fit r xs f (a .1))
+  where
+    by : Two (inOrder r x) → AllFit (insert r xs) → AllFit (insert r (x ∷ xs))
+    by (yes′ t) g = rw t (f, take-fit (length xs) (x ∷ xs) a)
+    by (no′ t) g = rw t (a .0, g)
+
+without-fit : (kid : ℕ) (rs : List KeyRecord) → AllFit rs → AllFit (without kid rs)
+unfolding without
+without-fit kid [] a = tt
+without-fit kid (x ∷ xs) a = by (two (holds kid x)) (without-fit kid xs (a .1))
+  where
+    by : Two (holds kid x) → AllFit (without kid xs) → AllFit (without kid (x ∷ xs))
+    by (yes′ t) g = rw t (snoc-fit xs (a .1))
     by (no′ t) g = rw t (a .0, g)
 
 pub get-fit : (kid : ℕ) (rs : List KeyRecord) → AllFit rs → Fit (get kid rs)
@@ -215,33 +247,30 @@ get-fit kid (x ∷ xs) a = by (two (holds kid x)) (get-fit kid xs (a .1))
     by (yes′ t) g = rw t (a .0)
     by (no′ t) g = rw t g
 
-replace-table : (test : KeyRecord → Bool) (r : KeyRecord) (rs : List KeyRecord) → Table rs → Fit r → apart (replace test r rs) ≡ true
-    → Table (replace test r rs)
-replace-table test r rs t f a =
-    let n = replace-length test r rs in
-    record { fit = replace-fit test r rs f (t .fit); kids-apart = a; some = omega (arith, t .some); most = omega (arith, t .most) }
+-- as many records, in order
+changed-table : (rs new : List KeyRecord) → Table rs → length new ≡ length rs → AllFit new → ordered new ≡ true → Table new
+changed-table rs new t n f o = record { fit = f; in-order = o; some = omega (arith, t .some); most = omega (arith, t .most) }
 
 module _ (kid : ℕ) (rs : List KeyRecord) (t : Table rs) where
   pub put-change : (r : KeyRecord) → Fit r → holds kid r ≡ true → isEmpty (get kid rs) ≡ false → Change kid r rs (put kid r rs)
-  unfolding put
   put-change r f h n = record {
-    table = replace-table (holds kid) r rs t f (put-apart kid r rs h (t .kids-apart));
+    table = changed-table rs (put kid r rs) t (put-length kid r rs) (put-fit kid r rs f (t .fit)) (put-ordered kid r h rs ∙ t .in-order);
     at-kid = put-same kid r rs h n;
     elsewhere = λ k d. put-other kid k r rs h d;
   }
 
-  pub clear-change : Change kid empty rs (clear kid rs)
-  unfolding clear
-  clear-change = record {
-    table = replace-table (holds kid) empty rs t tt (clear-apart kid rs (t .kids-apart));
-    at-kid = clear-same kid rs (t .kids-apart);
-    elsewhere = λ k d. clear-other kid k rs d;
+  pub without-change : Change kid empty rs (without kid rs)
+  without-change = record {
+    table = changed-table rs (without kid rs) t (without-length kid rs) (without-fit kid rs (t .fit)) (without-ordered kid rs (t .in-order));
+    at-kid = without-same kid rs (t .in-order);
+    elsewhere = λ k d. without-other kid k rs d;
   }
 
-  pub fill-change : (r : KeyRecord) → Fit r → holds kid r ≡ true → isEmpty (get kid rs) ≡ true → full rs ≡ false → Change kid r rs (fill r rs)
-  unfolding fill
-  fill-change r f h n e = record {
-    table = replace-table isEmpty r rs t f (fill-apart kid r rs h n (t .kids-apart));
-    at-kid = fill-same kid r rs h n e;
-    elsewhere = λ k d. fill-other kid k r rs h d;
-  }
+  pub insert-change : (r : KeyRecord) → Fit r → holds kid r ≡ true → isEmpty (get kid rs) ≡ true → full rs ≡ false → Change kid r rs (insert r rs)
+  insert-change r f h n e =
+      let m = empty-is (get kid rs) n in
+      record {
+        table = changed-table rs (insert r rs) t (insert-length r rs) (insert-fit r rs f (t .fit)) (insert-ordered kid r h rs m (t .in-order));
+        at-kid = insert-same kid r h rs m (t .in-order) e;
+        elsewhere = λ k d. insert-other kid r h k rs d m (t .in-order) e;
+      }

@@ -4,22 +4,18 @@ use mathlib.Core.Bool.{Bool, true, false, not}
 use mathlib.Core.List.{List, [], _∷_}
 use Prim.Native.Nat.{ℕ, zero, suc, _+_, _*_, _/_, _%_, _-_, _<_, _≤_}
 use native.Mathlib.Omega.{arith}
-use lib.Dec.{eqb}
-use lib.ListN.{length, getD, take, drop, length-drop}
+use lib.Dec.{ltb, eqb}
+use lib.ListN.{length, getD, take, drop, length-take, length-drop}
 use lib.Seq.{drop-drop}
-use borrow.Author.Tests.{le-leb, lt-leb, eqb-true, eqb-false}
-use Rattle.octets.specs.Octets.{both}
-use Rattle.octets.proofs.Laws.{part-rest}
+use borrow.Author.Tests.{le-leb, lt-leb, ltb-true, ltb-false, eq-eqb, ne-eqb}
+use Rattle.octets.specs.Octets.{pick, both}
 use Rattle.key_record.specs.Layout.{recordSize, decode, obeys}
-use Rattle.key_record.specs.Record.{KeyRecord, empty, isEmpty, kidOf, holds}
+use Rattle.key_record.specs.Record.{KeyRecord, empty, inOrder}
 use Rattle.store.specs.Store.{lengthRight, decodeAll, allObey, records, sound, maxRecords}
-use Rattle.store.specs.Table.{get, full, alone, apart, FoundIn, FreeIn}
+use Rattle.store.specs.Table.{orderedFrom, ordered}
+use Rattle.store.specs.inner.Places.{rowSound, rowsSound}
 use Rattle.answers.proofs.Basics.{Two, yes′, no′, two, told-false, told-true}
-use Rattle.key_record.proofs.KindLaws.{holds-some, holds-own}
 use Rattle.store.proofs.Stores.{length-right}
-use Rattle.store.proofs.Tables.{get-here, get-there, empty-is, alone-get}
-use Rattle.store.specs.declared.Place.{Place}
-use Rattle.store.specs.declared.Place.the-variants.{At, Nowhere}
 
 -- ---- lengths
 
@@ -51,10 +47,65 @@ decode-at (suc n) s (suc i) h = decode-at n (drop recordSize s) i (omega arith) 
     up : recordSize + i * recordSize ≡ suc i * recordSize
     up = omega arith
 
--- ---- from one record to the next
+-- ---- one pass
 
-module _ (s : List ℕ) (at end : ℕ) (whole : length s % recordSize ≡ 0) (inside : at < length s) (even : at % recordSize ≡ 0) (next : end ≡ at + recordSize) where
-  pub turn : (length s - at) / recordSize ≡ suc ((length s - end) / recordSize)
+both-pairs : (a b c d : Bool) → both (both a b) (both c d) ≡ both (both a c) (both b d)
+both-pairs true true c d = refl
+both-pairs true false true d = refl
+both-pairs true false false d = refl
+both-pairs false b c d = refl
+
+-- behind a row, the pass finds what the definition says of all rows and of all records
+pass-behind : (n : ℕ) (before s : List ℕ) → length before ≡ recordSize → length s ≡ n * recordSize
+    → rowsSound n before s ≡ both (allObey n s) (orderedFrom (decode before) (decodeAll n s))
+unfolding rowsSound rowSound allObey decodeAll orderedFrom
+pass-behind zero before s b e = refl
+pass-behind (suc n) before s b e =
+    let some : eqb (length before) 0 ≡ false = ne-eqb (length before) 0 (λ z. omega arith) in
+    let one : length (take recordSize s) ≡ recordSize = simp length-take (omega arith) in
+    let rest : length (drop recordSize s) ≡ n * recordSize = simp length-drop (omega arith) in
+    ap₂ (λ (t u : Bool). both (both (obeys (take recordSize s)) (pick t true (inOrder (decode before) (decode (take recordSize s))))) u) some (pass-behind n (take recordSize s) (drop recordSize s) one rest)
+    ∙ both-pairs (obeys (take recordSize s)) (inOrder (decode before) (decode (take recordSize s))) (allObey n (drop recordSize s)) (orderedFrom (decode (take recordSize s)) (decodeAll n (drop recordSize s)))
+
+pub pass : (n : ℕ) (s : List ℕ) → length s ≡ n * recordSize → rowsSound n [] s ≡ both (allObey n s) (ordered (decodeAll n s))
+unfolding rowsSound rowSound allObey decodeAll ordered
+pass zero s e = refl
+pass (suc n) s e =
+    let one : length (take recordSize s) ≡ recordSize = simp length-take (omega arith) in
+    let rest : length (drop recordSize s) ≡ n * recordSize = simp length-drop (omega arith) in
+    ap (both (both (obeys (take recordSize s)) true)) (pass-behind n (take recordSize s) (drop recordSize s) one rest)
+    ∙ both-pairs (obeys (take recordSize s)) true (allObey n (drop recordSize s)) (orderedFrom (decode (take recordSize s)) (decodeAll n (drop recordSize s)))
+
+-- one row of it
+pub row-fails : (before l : List ℕ) (r : Bool) → r ≡ obeys l → not r ≡ true → false ≡ rowSound before l
+unfolding rowSound
+row-fails before l r e t = sym (ap (λ (b : Bool). both b (pick (eqb (length before) 0) true (inOrder (decode before) (decode l)))) (told-false r _ e t))
+
+module _ (before l : List ℕ) (r : Bool) (e : r ≡ obeys l) (t : not r ≡ false) where
+  row-rest : rowSound before l ≡ pick (eqb (length before) 0) true (inOrder (decode before) (decode l))
+  unfolding rowSound
+  row-rest = ap (λ (b : Bool). both b (pick (eqb (length before) 0) true (inOrder (decode before) (decode l)))) (told-true r _ e t)
+
+  pub row-first : length before ≡ 0 → true ≡ rowSound before l
+  row-first z = sym (row-rest ∙ ap (λ (b : Bool). pick b true (inOrder (decode before) (decode l))) (eq-eqb (length before) 0 z))
+
+  pub row-behind : (b : Bool) → (length before ≡ 0 → ⊥) → b ≡ inOrder (decode before) (decode l) → b ≡ rowSound before l
+  row-behind b z q = q ∙ sym (row-rest ∙ ap (λ (x : Bool). pick x true (inOrder (decode before) (decode l))) (ne-eqb (length before) 0 z))
+
+-- the row before the one at index at, where there is one
+pub behind : (s : List ℕ) (before at : ℕ) → at ≤ length s → (before < at → at ≡ before + recordSize) → 0 < length (take (at - before) (drop before s)) → length (take (at - before) (drop before s)) ≡ recordSize
+behind s before at h p some = by (two (ltb before at))
+  where
+    width : length (take (at - before) (drop before s)) ≤ at - before
+    width = simp (length-take, length-drop) (omega arith)
+
+    by : Two (ltb before at) → length (take (at - before) (drop before s)) ≡ recordSize
+    by (yes′ t) = let e = p (ltb-true before at t) in simp (length-take, length-drop) (omega arith)
+    by (no′ t) = let e = ltb-false before at t in absurd (omega (arith, some, width))
+
+-- one turn of it, behind the row that begins at before
+module _ (s : List ℕ) (before at end : ℕ) (whole : length s % recordSize ≡ 0) (inside : at < length s) (even : at % recordSize ≡ 0) (next : end ≡ at + recordSize) where
+  turn : (length s - at) / recordSize ≡ suc ((length s - end) / recordSize)
   turn = omega arith
 
   part-is : take (end - at) (drop at s) ≡ take recordSize (drop at s)
@@ -63,161 +114,46 @@ module _ (s : List ℕ) (at end : ℕ) (whole : length s % recordSize ≡ 0) (in
   rest-is : drop recordSize (drop at s) ≡ drop end s
   rest-is = drop-drop recordSize at s ∙ ap (λ (k : ℕ). drop k s) (sym next)
 
-  obey-turn : allObey ((length s - at) / recordSize) (drop at s) ≡ both (obeys (take (end - at) (drop at s))) (allObey ((length s - end) / recordSize) (drop end s))
-  unfolding allObey
-  obey-turn =
-      ap (λ (k : ℕ). allObey k (drop at s)) turn
-      ∙ ap₂ (λ (x y : List ℕ). both (obeys x) (allObey ((length s - end) / recordSize) y)) (sym part-is) rest-is
+  pass-turn : rowsSound ((length s - at) / recordSize) (take (at - before) (drop before s)) (drop at s)
+      ≡ both (rowSound (take (at - before) (drop before s)) (take (end - at) (drop at s))) (rowsSound ((length s - end) / recordSize) (take (end - at) (drop at s)) (drop end s))
+  unfolding rowsSound
+  pass-turn =
+      ap (λ (k : ℕ). rowsSound k (take (at - before) (drop before s)) (drop at s)) turn
+      ∙ ap₂ (λ (x y : List ℕ). both (rowSound (take (at - before) (drop before s)) x) (rowsSound ((length s - end) / recordSize) x y)) (sym part-is) rest-is
 
-  records-turn : decodeAll ((length s - at) / recordSize) (drop at s) ≡ decode (take (end - at) (drop at s)) ∷ decodeAll ((length s - end) / recordSize) (drop end s)
-  unfolding decodeAll
-  records-turn =
-      ap (λ (k : ℕ). decodeAll k (drop at s)) turn
-      ∙ ap₂ (λ (x y : List ℕ). decode x ∷ decodeAll ((length s - end) / recordSize) y) (sym part-is) rest-is
+  module _ (r : Bool) (e : r ≡ rowSound (take (at - before) (drop before s)) (take (end - at) (drop at s)))
+      (i : rowsSound (length s / recordSize) [] s ≡ rowsSound ((length s - at) / recordSize) (take (at - before) (drop before s)) (drop at s)) where
+    pub pass-stop : not r ≡ true → false ≡ rowsSound (length s / recordSize) [] s
+    pass-stop t = sym (i ∙ pass-turn ∙ ap (λ (b : Bool). both b (rowsSound ((length s - end) / recordSize) (take (end - at) (drop at s)) (drop end s))) (told-false r _ e t))
 
-  -- judging the rows
-  pub obey-stop : (r : Bool) → r ≡ obeys (take (end - at) (drop at s)) → not r ≡ true → allObey (length s / recordSize) s ≡ allObey ((length s - at) / recordSize) (drop at s) → false ≡ allObey (length s / recordSize) s
-  obey-stop r e t i = sym (i ∙ obey-turn ∙ ap (λ (b : Bool). both b (allObey ((length s - end) / recordSize) (drop end s))) (told-false r _ e t))
+    pub pass-go : not r ≡ false → rowsSound (length s / recordSize) [] s ≡ rowsSound ((length s - end) / recordSize) (take (end - at) (drop at s)) (drop end s)
+    pass-go t = i ∙ pass-turn ∙ ap (λ (b : Bool). both b (rowsSound ((length s - end) / recordSize) (take (end - at) (drop at s)) (drop end s))) (told-true r _ e t)
 
-  pub obey-go : (r : Bool) → r ≡ obeys (take (end - at) (drop at s)) → not r ≡ false → allObey (length s / recordSize) s ≡ allObey ((length s - at) / recordSize) (drop at s)
-      → allObey (length s / recordSize) s ≡ allObey ((length s - end) / recordSize) (drop end s)
-  obey-go r e t i = i ∙ obey-turn ∙ ap (λ (b : Bool). both b (allObey ((length s - end) / recordSize) (drop end s))) (told-true r _ e t)
+pub pass-start : (s : List ℕ) → rowsSound (length s / recordSize) [] s ≡ rowsSound ((length s - 0) / recordSize) (take (0 - 0) (drop 0 s)) (drop 0 s)
+pass-start s = let e : (length s - 0) / recordSize ≡ length s / recordSize = omega arith in ap (λ (k : ℕ). rowsSound k [] s) (sym e)
 
-  -- looking a KID up
-  pub find-go : (kid : ℕ) (r : Bool) → r ≡ holds kid (decode (take (end - at) (drop at s))) → r ≡ false
-      → get kid (decodeAll (length s / recordSize) s) ≡ get kid (decodeAll ((length s - at) / recordSize) (drop at s)) → get kid (decodeAll (length s / recordSize) s) ≡ get kid (decodeAll ((length s - end) / recordSize) (drop end s))
-  find-go kid r e t i = i ∙ ap (get kid) records-turn ∙ get-there kid (decode (take (end - at) (drop at s))) (decodeAll ((length s - end) / recordSize) (drop end s)) (sym e ∙ t)
-
-  pub find-here : (kid : ℕ) (r : Bool) → r ≡ holds kid (decode (take (end - at) (drop at s))) → r ≡ true
-      → get kid (decodeAll (length s / recordSize) s) ≡ get kid (decodeAll ((length s - at) / recordSize) (drop at s)) → FoundIn (At (at / recordSize)) kid (decodeAll (length s / recordSize) s)
-  find-here kid r e t i =
-      let n = decode-all-length (length s / recordSize) s in
-      let low : at / recordSize < length s / recordSize = omega arith in
-      let place : at / recordSize * recordSize ≡ at = omega arith in
-      let d : getD (decodeAll (length s / recordSize) s) (at / recordSize) empty ≡ decode (take (end - at) (drop at s)) =
-      decode-at (length s / recordSize) s (at / recordSize) low ∙ ap (λ (k : ℕ). decode (take recordSize (drop k s))) place ∙ ap decode (sym part-is)
-      in
-      let h : holds kid (decode (take (end - at) (drop at s))) ≡ true = sym e ∙ t in
-      (omega arith, i ∙ ap (get kid) records-turn ∙ get-here kid (decode (take (end - at) (drop at s))) (decodeAll ((length s - end) / recordSize) (drop end s)) h ∙ sym d, ap (holds kid) d ∙ h)
-
-  -- judging that KIDs are apart
-  rest-records : decodeAll (length (take (length s - end) (drop end s)) / recordSize) (take (length s - end) (drop end s)) ≡ decodeAll ((length s - end) / recordSize) (drop end s)
-  rest-records =
-      ap (λ (x : List ℕ). decodeAll (length x / recordSize) x) (part-rest end s) ∙ ap (λ (k : ℕ). decodeAll (k / recordSize) (drop end s)) (length-drop end s)
-
-  pub apart-stop : (r : Bool) → r ≡ alone (decode (take (end - at) (drop at s))) (decodeAll (length (take (length s - end) (drop end s)) / recordSize) (take (length s - end) (drop end s))) → not r ≡ true
-      → apart (decodeAll (length s / recordSize) s) ≡ apart (decodeAll ((length s - at) / recordSize) (drop at s)) → false ≡ apart (decodeAll (length s / recordSize) s)
-  unfolding apart
-  apart-stop r e t i =
-      sym (i ∙ ap apart records-turn ∙ ap (λ (b : Bool). both b (apart (decodeAll ((length s - end) / recordSize) (drop end s))))
-      (ap (alone (decode (take (end - at) (drop at s)))) (sym rest-records) ∙ told-false r _ e t))
-
-  pub apart-go : (r : Bool) → r ≡ alone (decode (take (end - at) (drop at s))) (decodeAll (length (take (length s - end) (drop end s)) / recordSize) (take (length s - end) (drop end s))) → not r ≡ false
-      → apart (decodeAll (length s / recordSize) s) ≡ apart (decodeAll ((length s - at) / recordSize) (drop at s)) → apart (decodeAll (length s / recordSize) s) ≡ apart (decodeAll ((length s - end) / recordSize) (drop end s))
-  unfolding apart
-  apart-go r e t i =
-      i ∙ ap apart records-turn ∙ ap (λ (b : Bool). both b (apart (decodeAll ((length s - end) / recordSize) (drop end s))))
-      (ap (alone (decode (take (end - at) (drop at s)))) (sym rest-records) ∙ told-true r _ e t)
-
--- ---- the first record, and past the last one
-
-from-start : (s : List ℕ) → (length s - 0) / recordSize ≡ length s / recordSize
-from-start s = omega arith
-
-pub obey-start : (s : List ℕ) → allObey (length s / recordSize) s ≡ allObey ((length s - 0) / recordSize) (drop 0 s)
-obey-start s = ap (λ (k : ℕ). allObey k s) (sym (from-start s))
-
-pub records-start : (s : List ℕ) → decodeAll (length s / recordSize) s ≡ decodeAll ((length s - 0) / recordSize) (drop 0 s)
-records-start s = ap (λ (k : ℕ). decodeAll k s) (sym (from-start s))
-
-module _ (s : List ℕ) (at : ℕ) (past : length s ≤ at) where
-  none-left : (length s - at) / recordSize ≡ 0
-  none-left = omega arith
-
-  pub obey-end : allObey (length s / recordSize) s ≡ allObey ((length s - at) / recordSize) (drop at s) → true ≡ allObey (length s / recordSize) s
-  unfolding allObey
-  obey-end i = sym (i ∙ ap (λ (k : ℕ). allObey k (drop at s)) none-left)
-
-  pub find-end : (kid : ℕ) → get kid (decodeAll (length s / recordSize) s) ≡ get kid (decodeAll ((length s - at) / recordSize) (drop at s)) → get kid (decodeAll (length s / recordSize) s) ≡ empty
-  unfolding decodeAll get
-  find-end kid i = i ∙ ap (λ (k : ℕ). get kid (decodeAll k (drop at s))) none-left
-
-  pub apart-end : apart (decodeAll (length s / recordSize) s) ≡ apart (decodeAll ((length s - at) / recordSize) (drop at s)) → true ≡ apart (decodeAll (length s / recordSize) s)
-  unfolding decodeAll apart
-  apart-end i = sym (i ∙ ap (λ (k : ℕ). apart (decodeAll k (drop at s))) none-left)
-
--- ---- one record's KID among the others
-
-pub alone-unheld : (x : KeyRecord) (rs : List KeyRecord) (r : Bool) → r ≡ isEmpty x → r ≡ true → true ≡ alone x rs
-unfolding alone
-alone-unheld x rs r e t = sym (ap (λ (y : KeyRecord). alone y rs) (empty-is x (sym e ∙ t)))
-
-module _ (x : KeyRecord) (rs : List KeyRecord) (v : ℕ) (r : Bool) (e : r ≡ isEmpty x) (t : r ≡ false) (q : v ≡ kidOf x) where
-  alone-is : alone x rs ≡ isEmpty (get v rs)
-  alone-is = alone-get v x rs (ap (λ (k : ℕ). holds k x) q ∙ holds-own x (sym e ∙ t))
-
-  pub alone-nowhere : (p : Place) → FoundIn p v rs → p ≡ Nowhere → true ≡ alone x rs
-  alone-nowhere p f w = let g : get v rs ≡ empty = rw w at f in sym (alone-is ∙ ap isEmpty g)
-
-  pub alone-found : (p : Place) (i : ℕ) → FoundIn p v rs → p ≡ At i → false ≡ alone x rs
-  alone-found p i f w =
-      let g : FoundIn (At i) v rs = rw w at f in
-      sym (alone-is ∙ ap isEmpty (g .1) ∙ holds-some v (getD rs i empty) (g .2))
+pub pass-end : (s : List ℕ) (before at : ℕ) → length s ≤ at
+    → rowsSound (length s / recordSize) [] s ≡ rowsSound ((length s - at) / recordSize) (take (at - before) (drop before s)) (drop at s) → true ≡ rowsSound (length s / recordSize) [] s
+unfolding rowsSound
+pass-end s before at past i =
+    let none : (length s - at) / recordSize ≡ 0 = omega arith in
+    sym (i ∙ ap (λ (k : ℕ). rowsSound k (take (at - before) (drop before s)) (drop at s)) none)
 
 -- ---- the whole store
 
 pub sound-length : (s : List ℕ) (r : Bool) → r ≡ lengthRight (length s) → not r ≡ true → false ≡ sound s
 unfolding sound
-sound-length s r e t = sym (ap (λ (b : Bool). both b (both (allObey (length s / recordSize) s) (apart (records s)))) (told-false r _ e t))
+sound-length s r e t = sym (ap (λ (b : Bool). both b (both (allObey (length s / recordSize) s) (ordered (records s)))) (told-false r _ e t))
 
 module _ (s : List ℕ) (r : Bool) (e : r ≡ lengthRight (length s)) (t : not r ≡ false) where
   pub sound-whole : length s % recordSize ≡ 0
   sound-whole = length-right (length s) (told-true r _ e t) .whole
 
-  rest-of : sound s ≡ both (allObey (length s / recordSize) s) (apart (records s))
-  unfolding sound
-  rest-of = ap (λ (b : Bool). both b (both (allObey (length s / recordSize) s) (apart (records s)))) (told-true r _ e t)
-
-  pub sound-rows : (q : Bool) → q ≡ allObey (length s / recordSize) s → not q ≡ true → false ≡ sound s
-  sound-rows q f u = sym (rest-of ∙ ap (λ (b : Bool). both b (apart (records s))) (told-false q _ f u))
-
-  pub sound-kids : (q b : Bool) → q ≡ allObey (length s / recordSize) s → not q ≡ false → b ≡ apart (decodeAll (length s / recordSize) s) → b ≡ sound s
-  unfolding records
-  sound-kids q b f u g = g ∙ sym (rest-of ∙ ap (λ (x : Bool). both x (apart (records s))) (told-true q _ f u))
-
--- ---- room for one more
-
--- no record before the one at index at is empty
-abbrev pub NoneFree : List ℕ → ℕ → Type 0
-NoneFree s at = (j : ℕ) → j < at / recordSize → isEmpty (getD (decodeAll (length s / recordSize) s) j empty) ≡ false
-
-module _ (s : List ℕ) (at end : ℕ) (whole : length s % recordSize ≡ 0) (inside : at < length s) (even : at % recordSize ≡ 0) (next : end ≡ at + recordSize) where
-  record-is : getD (decodeAll (length s / recordSize) s) (at / recordSize) empty ≡ decode (take (end - at) (drop at s))
-  record-is =
-      let low : at / recordSize < length s / recordSize = omega arith in
-      let place : at / recordSize * recordSize ≡ at = omega arith in
-      decode-at (length s / recordSize) s (at / recordSize) low ∙ ap (λ (k : ℕ). decode (take recordSize (drop k s))) place ∙ ap decode (sym (part-is s at end whole inside even next))
-
-  pub free-here : (r : Bool) → r ≡ isEmpty (decode (take (end - at) (drop at s))) → r ≡ true → NoneFree s at → FreeIn (At (at / recordSize)) (decodeAll (length s / recordSize) s)
-  free-here r e t n =
-      let l = decode-all-length (length s / recordSize) s in
-      (omega arith, ap isEmpty record-is ∙ sym e ∙ t, n)
-
-  pub free-go : (r : Bool) → r ≡ isEmpty (decode (take (end - at) (drop at s))) → r ≡ false → NoneFree s at → NoneFree s end
-  free-go r e t n j h = by (two (eqb j (at / recordSize)))
-    where
-      by : Two (eqb j (at / recordSize)) → isEmpty (getD (decodeAll (length s / recordSize) s) j empty) ≡ false
-      by (yes′ q) =
-          ap (λ (k : ℕ). isEmpty (getD (decodeAll (length s / recordSize) s) k empty)) (eqb-true j (at / recordSize) q)
-          ∙ ap isEmpty record-is
-          ∙ sym e
-          ∙ t
-      by (no′ q) = n j (omega (arith, eqb-false j (at / recordSize) q))
-
-all-full : (rs : List KeyRecord) → ((j : ℕ) → j < length rs → isEmpty (getD rs j empty) ≡ false) → full rs ≡ true
-unfolding full
-all-full [] n = refl
-all-full (x ∷ xs) n = rw (n 0 (omega arith)) (all-full xs (λ j h. n (suc j) (omega arith)))
-
-pub free-end : (s : List ℕ) (at : ℕ) → length s % recordSize ≡ 0 → length s ≤ at → NoneFree s at → full (decodeAll (length s / recordSize) s) ≡ true
-free-end s at w h n = let l = decode-all-length (length s / recordSize) s in all-full (decodeAll (length s / recordSize) s) (λ j k. n j (omega arith))
+  pub sound-rows : (b : Bool) → b ≡ rowsSound (length s / recordSize) [] s → b ≡ sound s
+  unfolding sound records
+  sound-rows b q =
+      let w = sound-whole in
+      let n : length s ≡ length s / recordSize * recordSize = omega arith in
+      q
+      ∙ pass (length s / recordSize) s n
+      ∙ sym (ap (λ (x : Bool). both x (both (allObey (length s / recordSize) s) (ordered (records s)))) (told-true r _ e t))

@@ -8,11 +8,11 @@ use lib.ListN.{length, take, drop}
 use Rattle.octets.specs.Octets.{both}
 use Rattle.key_record.specs.Layout.{recordSize, encode, decode, obeys}
 use Rattle.key_record.specs.Record.{KeyRecord}
-use Rattle.store.specs.Table.{apart}
+use Rattle.store.specs.Table.{ordered}
 
 -- A store has 1 to this many records.
 abbrev pub maxRecords : ℕ
-maxRecords = 64
+maxRecords = 1024
 
 -- A store's length: one record to the most, in whole records.
 unfoldable pub lengthRight : ℕ → Bool
@@ -36,6 +36,6 @@ allObey (suc n) s = both (obeys (take recordSize s)) (allObey n (drop recordSize
 unfoldable pub records : List ℕ → List KeyRecord
 records s = decodeAll (length s / recordSize) s
 
--- Sound: the length is right, every record obeys its row, no two non-empty records share a KID.
+-- Sound: the length is right, every record obeys its row, KIDs rise and the empty records are last.
 unfoldable pub sound : List ℕ → Bool
-sound s = both (lengthRight (length s)) (both (allObey (length s / recordSize) s) (apart (records s)))
+sound s = both (lengthRight (length s)) (both (allObey (length s / recordSize) s) (ordered (records s)))

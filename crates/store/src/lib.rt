@@ -13,24 +13,31 @@ use key_record::row;
 use suites::sizes::Suite;
 ghost use mathlib.Core.Path.{_≡_};
 ghost use mathlib.Core.Bool.{true, false};
-ghost use Prim.Native.Nat.{_<_, _≤_};
+ghost use mathlib.Core.List.{[]};
+ghost use Prim.Native.Nat.{_/_, _<_, _≤_};
 ghost use lib.ListN.{length, getD, set};
 ghost use Rattle.answers.specs.Limits.{baseKeyMost};
-ghost use Rattle.store.specs.Calls.{make, remove};
-ghost use Rattle.key_record.specs.Layout.{recordSize, decode};
-ghost use Rattle.key_record.specs.Record.{ceiling, empty, isEmpty, isSending, isReceiving, counterOf, windowOf, advanced, noted};
+ghost use Rattle.store.specs.Calls.{make, remove, find, found};
+ghost use Rattle.key_record.specs.Layout.{recordSize};
+ghost use Rattle.key_record.specs.Record.{ceiling, empty, isSending, isReceiving, holds, counterOf, windowOf, advanced, noted};
 ghost use Rattle.store.specs.Store.{lengthRight, encodeAll, records, sound};
-ghost use Rattle.store.specs.Table.{alone, apart, FoundIn, FreeIn};
+ghost use Rattle.store.specs.Table.{full, insert, FoundIn};
 ghost use Rattle.key_record.specs.inner.Rows.{fresh, kept};
 ghost use Rattle.window.specs.Window.{seen, tooOld};
-ghost use Rattle.store.specs.inner.Places.{Whole, rowsObey, Within, RowOf};
+ghost use Rattle.store.specs.inner.Places.{Whole, rowSound, rowsSound, rank, Within, RowOf, Insertable, closed};
 
-pub const MAX_RECORDS: usize = 64;
+pub const MAX_RECORDS: usize = 1024;
 
 // Where a record stands: the number of the record, or nowhere.
 pub enum Place {
     At(usize),
     Nowhere,
+}
+
+// What a search by a caller answers: its number, and the place.
+pub struct Located {
+    pub number: u32,
+    pub place: usize,
 }
 
 // Whether a length is that of a store.
@@ -46,79 +53,33 @@ fn length_right(n: usize) -> bool
     n % RECORD_SIZE == 0
 }
 
-// Whether the bytes of every record obey their row.
-fn rows_obey(store: &[u8]) -> bool
-    requires { ⌜ Whole (now store) ⌝ }
-    ensures { λ r. ⌜ r ≡ rowsObey (now (store .entry)) ⌝ }
+// Whether a row obeys, and its record is in order behind that of the row before it, if there is one.
+fn row_sound(before: &[u8], row: &[u8]) -> bool
+    requires { ⌜ (length (now row) ≡ recordSize) × (0 < length (now before) → length (now before) ≡ recordSize) ⌝ }
+    ensures { λ r. ⌜ r ≡ rowSound (now (before .entry)) (now (row .entry)) ⌝ }
 {
-    let mut at = 0;
-    while at < store.len() {
-        let end = at + RECORD_SIZE;
-        if !judging::obeys_row(&store[at..end]) {
-            return false;
-        }
-        at = end;
+    if !judging::obeys_row(row) {
+        return false;
     }
-    true
-}
-
-// Where the record stands that holds a KID.
-pub fn find(store: &[u8], kid: Kid) -> Place
-    requires { ⌜ Whole (now store) ⌝ }
-    ensures { λ r. ⌜ FoundIn r (kid .0) (records (now (store .entry))) ⌝ }
-{
-    let mut at = 0;
-    while at < store.len() {
-        let end = at + RECORD_SIZE;
-        if row::holds_kid(&store[at..end], kid) {
-            return Place::At(at / RECORD_SIZE);
-        }
-        at = end;
-    }
-    Place::Nowhere
-}
-
-// Where the lowest-numbered empty record stands.
-pub fn find_free(store: &[u8]) -> Place
-    requires { ⌜ Whole (now store) ⌝ }
-    ensures { λ r. ⌜ FreeIn r (records (now (store .entry))) ⌝ }
-{
-    let mut at = 0;
-    while at < store.len() {
-        let end = at + RECORD_SIZE;
-        if row::is_empty(&store[at..end]) {
-            return Place::At(at / RECORD_SIZE);
-        }
-        at = end;
-    }
-    Place::Nowhere
-}
-
-// Whether no record of rest shares the KID of a record.
-fn alone_in(row: &[u8], rest: &[u8]) -> bool
-    requires { ⌜ (length (now row) ≡ recordSize) × (Whole (now rest)) ⌝ }
-    ensures { λ r. ⌜ r ≡ alone (decode (now (row .entry))) (records (now (rest .entry))) ⌝ }
-{
-    if row::is_empty(row) {
+    if before.len() == 0 {
         return true;
     }
-    let Place::At(place) = find(rest, row::kid_of(row)) else {
-        return true;
-    };
-    false
+    row::in_order(before, row)
 }
 
-// Whether no two non-empty records share a KID.
-fn kids_apart(store: &[u8]) -> bool
+// Whether every row obeys and the records are in order: one pass.
+fn rows_sound(store: &[u8]) -> bool
     requires { ⌜ Whole (now store) ⌝ }
-    ensures { λ r. ⌜ r ≡ apart (records (now (store .entry))) ⌝ }
+    ensures { λ r. ⌜ r ≡ rowsSound (length (now (store .entry)) / recordSize) [] (now (store .entry)) ⌝ }
 {
+    let mut before = 0;
     let mut at = 0;
     while at < store.len() {
         let end = at + RECORD_SIZE;
-        if !alone_in(&store[at..end], &store[end..]) {
+        if !row_sound(&store[before..at], &store[at..end]) {
             return false;
         }
+        before = at;
         at = end;
     }
     true
@@ -131,10 +92,7 @@ pub fn is_sound(store: &[u8]) -> bool
     if !length_right(store.len()) {
         return false;
     }
-    if !rows_obey(store) {
-        return false;
-    }
-    kids_apart(store)
+    rows_sound(store)
 }
 
 // The bytes of record i.
@@ -147,13 +105,76 @@ pub fn row_at(store: &[u8], i: usize) -> &[u8]
     &store[at..end]
 }
 
-// Writes a new key to record i, which is empty.
-pub fn fill_at(store: &mut [u8], i: usize, role: Role, suite: Suite, kid: Kid, base: &[u8])
-    requires { ⌜ (Within (now store) i) × (isEmpty (getD (records (now store)) i empty) ≡ true) × (length (now base) ≤ baseKeyMost) ⌝ }
-    ensures { λ _. ⌜ now (store .exit) ≡ encodeAll (set (records (now (store .entry))) i (fresh role suite (kid .0) (now (base .entry)))) ⌝ }
+// Whether a non-empty record with that KID stands at a place, which may be any number.
+pub fn stands_at(store: &[u8], place: usize, kid: Kid) -> bool
+    requires { ⌜ sound (now store) ≡ true ⌝ }
+    ensures { λ r. ⌜ r ≡ holds (kid .0) (getD (records (now (store .entry))) place empty) ⌝ }
+{
+    if place < store.len() / RECORD_SIZE {
+        return row::holds_kid(row_at(store, place), kid);
+    }
+    false
+}
+
+// The place of a KID in order: how many records with lower KIDs there are.
+pub fn rank(store: &[u8], kid: Kid) -> usize
+    requires { ⌜ sound (now store) ≡ true ⌝ }
+    ensures { λ r. ⌜ r ≡ rank (kid .0) (records (now (store .entry))) ⌝ }
+{
+    let mut low = 0;
+    let mut high = store.len() / RECORD_SIZE;
+    while low < high {
+        let middle = low + (high - low) / 2;
+        if row::precedes(row_at(store, middle), kid) {
+            low = middle + 1;
+        } else {
+            high = middle;
+        }
+    }
+    low
+}
+
+// Where the record stands that holds a KID.
+pub fn find(store: &[u8], kid: Kid) -> Place
+    requires { ⌜ sound (now store) ≡ true ⌝ }
+    ensures { λ r. ⌜ FoundIn r (kid .0) (records (now (store .entry))) ⌝ }
+{
+    let i = rank(store, kid);
+    if stands_at(store, i, kid) {
+        return Place::At(i);
+    }
+    Place::Nowhere
+}
+
+// The same, with the place where the caller believes the record to stand: it is tried first, and changes no answer.
+pub fn find_near(store: &[u8], kid: Kid, place: usize) -> Place
+    requires { ⌜ sound (now store) ≡ true ⌝ }
+    ensures { λ r. ⌜ FoundIn r (kid .0) (records (now (store .entry))) ⌝ }
+{
+    if stands_at(store, place, kid) {
+        return Place::At(place);
+    }
+    find(store, kid)
+}
+
+// Whether no record is empty: the last one is not.
+pub fn is_full(store: &[u8]) -> bool
+    requires { ⌜ sound (now store) ≡ true ⌝ }
+    ensures { λ r. ⌜ r ≡ full (records (now (store .entry))) ⌝ }
+{
+    let last = store.len() / RECORD_SIZE - 1;
+    !row::is_empty(row_at(store, last))
+}
+
+// Inserts a new key at its place i.
+pub fn insert_at(store: &mut [u8], i: usize, role: Role, suite: Suite, kid: Kid, base: &[u8])
+    requires { ⌜ Insertable (now store) i (kid .0) × (length (now base) ≤ baseKeyMost) ⌝ }
+    ensures { λ _. ⌜ now (store .exit) ≡ encodeAll (insert (fresh role suite (kid .0) (now (base .entry))) (records (now (store .entry)))) ⌝ }
 {
     let at = i * RECORD_SIZE;
+    octets::move_up(&mut store[at..], RECORD_SIZE);
     let end = at + RECORD_SIZE;
+    row::clear(&mut store[at..end]);
     row::fill(&mut store[at..end], role, suite, kid, base);
 }
 
@@ -187,14 +208,15 @@ fn retire_at(store: &mut [u8], i: usize)
     row::retire(&mut store[at..end]);
 }
 
-// Empties record i.
-fn clear_at(store: &mut [u8], i: usize)
+// Takes record i out: those behind it move down by one, and the last is empty.
+fn close_at(store: &mut [u8], i: usize)
     requires { ⌜ Within (now store) i ⌝ }
-    ensures { λ _. ⌜ now (store .exit) ≡ encodeAll (set (records (now (store .entry))) i empty) ⌝ }
+    ensures { λ _. ⌜ now (store .exit) ≡ encodeAll (closed i (records (now (store .entry)))) ⌝ }
 {
     let at = i * RECORD_SIZE;
-    let end = at + RECORD_SIZE;
-    row::clear(&mut store[at..end]);
+    octets::move_down(&mut store[at..], RECORD_SIZE);
+    let last = store.len() - RECORD_SIZE;
+    row::clear(&mut store[last..]);
 }
 
 // Makes a store: zeros throughout.
@@ -209,15 +231,15 @@ pub fn make(store: &mut [u8]) -> u32
     DONE
 }
 
-// Removes the key of a KID.
-pub fn remove(store: &mut [u8], kid: Kid) -> u32
+// Removes the key of a KID. Any number may be given for the place where its record is believed to stand.
+pub fn remove(store: &mut [u8], kid: Kid, place: usize) -> u32
     ensures { λ r. ⌜ r ≡ remove (now (store .entry)) (kid .0) .number ⌝ }
     ensures { λ _. ⌜ now (store .exit) ≡ remove (now (store .entry)) (kid .0) .store ⌝ }
 {
     if !is_sound(store) {
         return STORE_INVALID;
     }
-    let Place::At(i) = find(store, kid) else {
+    let Place::At(i) = find_near(store, kid, place) else {
         return KID_MISSING;
     };
     let kind = row::kind_of(row_at(store, i));
@@ -227,10 +249,32 @@ pub fn remove(store: &mut [u8], kid: Kid) -> u32
             DONE
         }
         Kind::Receiver => {
-            clear_at(store, i);
+            close_at(store, i);
             DONE
         }
         Kind::Retired => ROLE_REFUSED,
         Kind::Empty => KID_MISSING,
+    }
+}
+
+// Finds the place of the record that holds a KID, for a caller to hand in later.
+pub fn locate(store: &[u8], kid: Kid) -> Located
+    ensures { λ r. ⌜ (r .number ≡ find (now (store .entry)) (kid .0) .number) × (r .place ≡ found (now (store .entry)) (kid .0)) ⌝ }
+{
+    if !is_sound(store) {
+        return Located {
+            number: STORE_INVALID,
+            place: 0,
+        };
+    }
+    let Place::At(i) = find(store, kid) else {
+        return Located {
+            number: KID_MISSING,
+            place: 0,
+        };
+    };
+    Located {
+        number: DONE,
+        place: i,
     }
 }

@@ -1,11 +1,13 @@
 //! Times of the calls that the sealing layer offers.
 
+mod calls;
 #[cfg(has_earlier)]
 mod earlier;
 mod frames;
 mod headers;
 mod judging;
 mod others;
+mod places;
 mod stores;
 
 use bench::{print_method, progress};
@@ -38,18 +40,20 @@ fn main() -> ExitCode {
 fn run(folder: &Path) -> io::Result<()> {
     fs::create_dir_all(folder)?;
     print_method();
-    progress("1 of 5: headers");
+    progress("1 of 6: headers");
     headers::run();
-    progress("2 of 5: frames");
+    progress("2 of 6: frames");
     frames::run(&folder.join("frames.csv"))?;
-    progress("3 of 5: judging the store");
+    progress("3 of 6: judging the store");
     judging::run(&folder.join("judging.csv"))?;
-    progress("4 of 5: an earlier library");
+    progress("4 of 6: places");
+    places::run(&folder.join("places.csv"))?;
+    progress("5 of 6: an earlier library");
     #[cfg(has_earlier)]
     earlier::run(&folder.join("earlier.csv"))?;
     #[cfg(not(has_earlier))]
     println!("\nno earlier library: SFRAME_EARLIER_DIR names no folder of one");
-    progress("5 of 5: other libraries");
+    progress("6 of 6: other libraries");
     others::run(&folder.join("libraries.csv"))?;
     println!("\nthe tables are in {} as CSV files", folder.display());
     Ok(())

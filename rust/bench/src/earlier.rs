@@ -1,7 +1,9 @@
 //! The layer beside an earlier one, in one program and in turns. The earlier
 //! archive is the one in the folder that `SFRAME_EARLIER_DIR` names.
 
-use crate::stores::{frame, full, set_back, BASE_KEY, COUNTER_AT, FIRST_COUNTER, KID};
+use crate::stores::{
+    frame, full, kids, set_back, BASE_KEY, COUNTER_AT, FIRST_COUNTER, KID, UNKNOWN,
+};
 use bench::{measure, Times};
 use reference::store::Role;
 use sframe::{frame_room, Suite, RECORD};
@@ -87,9 +89,7 @@ impl Earlier {
         // SAFETY: store and base key are live, apart, and of the lengths given.
         unsafe {
             assert_eq!(earlier_make(store.as_mut_ptr(), store.len()), 0);
-            for place in 1..=records as u64 {
-                let last = place == records as u64;
-                let kid = if last { KID } else { 1_000 + place };
+            for kid in kids(records) {
                 let (bytes, length) = (store.as_mut_ptr(), store.len());
                 let key = (BASE_KEY.as_ptr(), BASE_KEY.len());
                 assert_eq!(add(bytes, length, kid, suite.number(), key.0, key.1), 0);
@@ -217,7 +217,6 @@ pub fn run(csv: &Path) -> io::Result<()> {
 
 /// A removal that is refused right after the store is judged.
 fn judge(records: usize) -> Times {
-    const UNKNOWN: u64 = 999;
     let suite = Suite::Aes128GcmSha256_128;
     let mut ours = full(records, suite, Role::Sending);
     let mut earlier = Earlier::full(records, suite, Role::Sending);

@@ -1,18 +1,15 @@
 //! Sealing and opening whole frames.
 
-use crate::stores::{frame, full, set_back, KID};
-use bench::{measure, Times};
-use reference::store::Role;
-use sframe::{frame_room, Suite};
+use crate::calls::{open, seal, Place};
+use bench::Times;
+use sframe::Suite;
 use std::fmt::Write;
-use std::hint::black_box;
 use std::path::Path;
 use std::{fs, io};
 use testkit::Generator;
 
 const LENGTHS: [usize; 4] = [0, 160, 1_200, 32_768];
 const RECORDS: [usize; 2] = [1, 64];
-const METADATA: &[u8] = &[];
 
 /// Prints the table and writes it to a file.
 pub fn run(csv: &Path) -> io::Result<()> {
@@ -20,7 +17,7 @@ pub fn run(csv: &Path) -> io::Result<()> {
     let mut generator = Generator::new(0x6265_6e63_6800_0002);
     println!(
         "frames: the store is judged and the key made ready anew for each frame. Full\n\
-         stores, the key in the last record; no metadata; headers of 5 bytes; plaintext,\n\
+         stores, the key in the last record; no metadata; headers of 6 bytes; plaintext,\n\
          store and room stay in place from frame to frame, so they are in the cache. One\n\
          frame is opened again and again: the window is set back before each opening,\n\
          within the time, to where the frame's counter is the next.\n\n\
@@ -32,8 +29,8 @@ pub fn run(csv: &Path) -> io::Result<()> {
             let plaintext = generator.bytes(length);
             for records in RECORDS {
                 for (call, times) in [
-                    ("seal", seal(suite, records, &plaintext)),
-                    ("open", open(suite, records, &plaintext)),
+                    ("seal", seal(suite, records, Place::None, &plaintext)),
+                    ("open", open(suite, records, Place::None, &plaintext)),
                 ] {
                     let suite = suite.number();
                     print(call, suite, length, records, times);
@@ -62,46 +59,4 @@ fn print(call: &str, suite: u64, length: usize, records: usize, times: Times) {
         rate(reference),
         ours / reference
     );
-}
-
-fn seal(suite: Suite, records: usize, plaintext: &[u8]) -> Times {
-    let mut ours = full(records, suite, Role::Sending);
-    let mut theirs = ours.clone();
-    let mut out = vec![0; frame_room(suite, plaintext.len())];
-    let mut room = out.clone();
-    measure(
-        || {
-            let plaintext = black_box(plaintext);
-            let written = sframe::raw::seal(&mut ours, KID, METADATA, plaintext, &mut out);
-            assert_eq!(black_box(written).number, 0);
-        },
-        || {
-            let plaintext = black_box(plaintext);
-            let done = reference::store::seal(&mut theirs, KID, METADATA, plaintext, &mut room);
-            assert!(black_box(done).is_ok());
-        },
-    )
-}
-
-fn open(suite: Suite, records: usize, plaintext: &[u8]) -> Times {
-    let frame = frame(suite, plaintext);
-    let mut ours = full(records, suite, Role::Receiving);
-    let mut theirs = ours.clone();
-    let mut out = vec![0; plaintext.len()];
-    let mut room = out.clone();
-    let times = measure(
-        || {
-            set_back(&mut ours);
-            let written = sframe::raw::open(&mut ours, black_box(&frame), METADATA, &mut out);
-            assert_eq!(black_box(written).number, 0);
-        },
-        || {
-            set_back(&mut theirs);
-            let done = reference::store::open(&mut theirs, METADATA, black_box(&frame), &mut room);
-            assert!(black_box(done).is_ok());
-        },
-    );
-    assert_eq!(out, plaintext);
-    assert_eq!(room, plaintext);
-    times
 }

@@ -1,6 +1,6 @@
 //! What judging the whole store costs: calls that are refused right after it.
 
-use crate::stores::full;
+use crate::stores::{full, UNKNOWN};
 use bench::{measure, print_heading, print_time, Times};
 use reference::store::Role;
 use sframe::Suite;
@@ -9,14 +9,11 @@ use std::hint::black_box;
 use std::path::Path;
 use std::{fs, io};
 
-/// A key number that no store holds.
-const UNKNOWN: u64 = 999;
-
 /// Prints the table and writes it to a file.
 pub fn run(csv: &Path) -> io::Result<()> {
     print_heading("judging a full store, key number unknown");
     let mut rows = String::from("call,records,ours_ns,reference_ns\n");
-    for records in [1, 16, 64] {
+    for records in [1, 16, 64, 1_024] {
         for (call, times) in [("remove", remove(records)), ("seal", seal(records))] {
             print_time(&format!("{call}, records: {records}"), times);
             let Times { ours, reference } = times;

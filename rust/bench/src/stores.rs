@@ -6,7 +6,10 @@ use reference::suites;
 use sframe::{frame_room, Suite, RECORD};
 
 /// The key number of the measured key, the last that its store holds.
-pub const KID: u64 = 200;
+pub const KID: u64 = 2_000;
+
+/// A key number that no store holds, higher than those that it holds.
+pub const UNKNOWN: u64 = 3_000;
 
 /// The counter that sealing starts from. Headers keep their length from here
 /// until 2^24.
@@ -30,9 +33,7 @@ pub fn full(records: usize, suite: Suite, role: Role) -> Vec<u8> {
         Role::Sending => State::Sending,
         Role::Receiving => State::Receiving,
     };
-    for place in 1..=records as u64 {
-        let last = place == records as u64;
-        let kid = if last { KID } else { 1_000 + place };
+    for kid in kids(records) {
         put(&mut store, Record::new(state, suite, kid, &BASE_KEY));
     }
     if role == Role::Sending {
@@ -40,6 +41,11 @@ pub fn full(records: usize, suite: Suite, role: Role) -> Vec<u8> {
         store[at..at + 8].copy_from_slice(&FIRST_COUNTER.to_be_bytes());
     }
     store
+}
+
+/// The key numbers of a full store, by rising number.
+pub fn kids(records: usize) -> impl Iterator<Item = u64> {
+    (1..records as u64).chain([KID])
 }
 
 /// Sets the measured key's window back, so that the frame of [`FIRST_COUNTER`]

@@ -1,6 +1,7 @@
 //! The key store in lent bytes, and the calls on it.
 //!
-//! Each call tries its causes of refusal in the order in which its comment
+//! Records stand in rising order of their KIDs, and empty ones behind them. Each
+//! call tries its causes of refusal in the order in which its comment
 //! names them. A refusal changes no lent byte.
 
 use crate::aead::Aead;
@@ -10,7 +11,7 @@ use crate::refusal::{Answer, Refusal};
 use crate::suites::{nonce, Suite};
 
 /// How many records a store may have.
-pub const MAX_RECORDS: usize = 64;
+pub const MAX_RECORDS: usize = 1_024;
 /// The longest plaintext.
 pub const MAX_PLAINTEXT: usize = 32_768;
 /// The longest metadata.
@@ -38,7 +39,7 @@ pub fn make(store: &mut [u8]) -> Answer {
     Ok(0)
 }
 
-/// Adds a key in the first empty record. Refusals: 1, 2, 17, 3, 4, 5.
+/// Adds a key at the place of its KID. Refusals: 1, 2, 17, 3, 4, 5.
 pub fn add(store: &mut [u8], role: Role, suite: u64, kid: u64, base_key: &[u8]) -> Answer {
     let records = read_store(store)?;
     let suite = Suite::from_number(suite).ok_or(Refusal::NoSuchSuite)?;
@@ -51,47 +52,56 @@ pub fn add(store: &mut [u8], role: Role, suite: u64, kid: u64, base_key: &[u8]) 
     if look_up(&records, kid).is_ok() {
         return Err(Refusal::KidHeld);
     }
-    let place = records
-        .iter()
-        .position(Option::is_none)
-        .ok_or(Refusal::StoreFull)?;
+    if records.iter().all(Option::is_some) {
+        return Err(Refusal::StoreFull);
+    }
 
     let state = match role {
         Role::Sending => State::Sending,
         Role::Receiving => State::Receiving,
     };
     let record = Record::new(state, suite, kid, base_key);
-    write_record(store, place, Some(record));
+    put(store, record);
     Ok(0)
 }
 
-/// Writes a record over the first empty one of a store, by no rule of adding: a
-/// store may hold a sending key of suite 3 from before it was barred.
+/// Puts a record at its place in a sound store, by no rule of adding: a store
+/// may hold a sending key of suite 3 from before it was barred.
 ///
 /// # Panics
 ///
-/// Where no record is empty.
+/// Where the store is not sound, no record is empty, or one has the KID.
 pub fn put(store: &mut [u8], record: Record) {
-    let empty = |bytes: &[u8]| bytes.iter().all(|&byte| byte == 0);
-    let place = store
-        .chunks_exact(RECORD)
-        .position(empty)
-        .expect("an empty record");
-    write_record(store, place, Some(record));
+    let mut records = read_store(store).expect("a sound store");
+    assert!(look_up(&records, record.kid).is_err(), "a new KID");
+    assert_eq!(records.pop(), Some(None), "an empty record");
+    let above = |slot: &Option<Record>| slot.as_ref().is_none_or(|r| r.kid > record.kid);
+    let place = records.iter().position(above).unwrap_or(records.len());
+    records.insert(place, Some(record));
+    write_store(store, &records);
 }
 
-/// Removes a key: a receiving one leaves its record empty, a sending one leaves
-/// it retired. Refusals: 1, 6, 7.
+/// Removes a key: a sending one leaves its record retired, and a receiving one's
+/// record goes, so that those behind it move up. Refusals: 1, 6, 7.
 pub fn remove(store: &mut [u8], kid: u64) -> Answer {
-    let records = read_store(store)?;
+    let mut records = read_store(store)?;
     let (place, record) = look_up(&records, kid)?;
-    let left = match record.state {
-        State::Sending => Some(record.clone().retired()),
-        State::Receiving => None,
+    match record.state {
+        State::Sending => records[place] = Some(record.clone().retired()),
+        State::Receiving => {
+            records.remove(place);
+            records.push(None);
+        }
         State::Retired => return Err(Refusal::WrongRole),
-    };
-    write_record(store, place, left);
+    }
+    write_store(store, &records);
     Ok(0)
+}
+
+/// The place of the record of `kid`, counted from 0. Refusals: 1, 6.
+pub fn find(store: &[u8], kid: u64) -> Result<usize, Refusal> {
+    let records = read_store(store)?;
+    look_up(&records, kid).map(|(place, _)| place)
 }
 
 /// Seals `plaintext` at the front of `room`. Refusals: 1, 6, 7, 8, 9, 12.
@@ -137,7 +147,7 @@ pub fn seal_at(
     frame[tag_at..].copy_from_slice(&tag);
 
     let advanced = record.clone().advanced();
-    write_record(store, place, Some(advanced));
+    write_record(store, place, &Some(advanced));
     Ok(length)
 }
 
@@ -176,7 +186,7 @@ pub fn open(store: &mut [u8], metadata: &[u8], frame: &[u8], room: &mut [u8]) ->
     aead.apply_key_stream(&nonce, plaintext);
 
     let opened = record.clone().opening(ctr);
-    write_record(store, place, Some(opened));
+    write_record(store, place, &Some(opened));
     Ok(length)
 }
 
@@ -206,12 +216,20 @@ fn read_store(store: &[u8]) -> Result<Vec<Option<Record>>, Refusal> {
         .collect::<Result<_, _>>()
         .map_err(|_| Refusal::StoreNotSound)?;
 
-    let mut kids: Vec<u64> = records.iter().flatten().map(|record| record.kid).collect();
-    kids.sort_unstable();
-    if kids.windows(2).any(|pair| pair[0] == pair[1]) {
-        return Err(Refusal::StoreNotSound);
+    match records.is_sorted_by(follows) {
+        true => Ok(records),
+        false => Err(Refusal::StoreNotSound),
     }
-    Ok(records)
+}
+
+/// Whether one record may stand behind another: its KID is higher, or it is
+/// empty.
+fn follows(one: &Option<Record>, next: &Option<Record>) -> bool {
+    match (one, next) {
+        (_, None) => true,
+        (None, Some(_)) => false,
+        (Some(one), Some(next)) => one.kid < next.kid,
+    }
 }
 
 /// The non-empty record of `kid`, and its place.
@@ -223,9 +241,16 @@ fn look_up(records: &[Option<Record>], kid: u64) -> Result<(usize, &Record), Ref
         .ok_or(Refusal::KidUnknown)
 }
 
+/// Writes every record of a store.
+fn write_store(store: &mut [u8], records: &[Option<Record>]) {
+    for (place, record) in records.iter().enumerate() {
+        write_record(store, place, record);
+    }
+}
+
 /// Writes a record, or zeros for an empty one, at its place.
-fn write_record(store: &mut [u8], place: usize, record: Option<Record>) {
-    let bytes = record.map_or([0; RECORD], |record| record.encode());
+fn write_record(store: &mut [u8], place: usize, record: &Option<Record>) {
+    let bytes = record.as_ref().map_or([0; RECORD], Record::encode);
     store[place * RECORD..][..RECORD].copy_from_slice(&bytes);
 }
 

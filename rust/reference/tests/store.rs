@@ -79,10 +79,10 @@ fn open_counter(store: &mut [u8], ctr: u64) -> Answer {
 }
 
 #[test]
-fn make_takes_1_to_64_records() {
-    for length in 0..=7_000 {
+fn make_takes_1_to_1024_records() {
+    for length in (0..=7_000).chain(98_000..=98_500) {
         let mut store = vec![0xa5; length];
-        let allowed = (96..=6_144).contains(&length) && length % 96 == 0;
+        let allowed = (96..=98_304).contains(&length) && length % 96 == 0;
         assert_eq!(make(&mut store).is_ok(), allowed);
         let left = if allowed { 0 } else { 0xa5 };
         assert!(store.iter().all(|&byte| byte == left));
@@ -279,17 +279,75 @@ fn add_refuses_in_order() {
 }
 
 #[test]
-fn a_64th_key_fits_and_a_65th_does_not() {
-    let mut store = made(MAX_RECORDS);
-    for kid in 0..64 {
+fn a_1024th_key_fits_and_a_1025th_does_not() {
+    let mut store = made(1_024);
+    for kid in 0..1_024 {
         assert_eq!(add(&mut store, Role::Receiving, 1, kid, &BASE_KEY), Ok(0));
     }
     refused(
         &store,
         StoreFull,
-        |s, _| add(s, Role::Sending, 1, 64, &BASE_KEY),
+        |s, _| add(s, Role::Sending, 1, 1_024, &BASE_KEY),
         0,
     );
+}
+
+/// The KID of each record, `None` where it is empty.
+fn kids(store: &[u8]) -> Vec<Option<u64>> {
+    store
+        .chunks_exact(RECORD)
+        .map(|bytes| Record::decode(bytes).unwrap().map(|record| record.kid))
+        .collect()
+}
+
+/// In whatever order keys are added, they stand by rising KID.
+#[test]
+fn keys_stand_in_rising_order() {
+    let mut orders = vec![vec![0, 3, 7, u64::MAX]];
+    orders.extend([vec![u64::MAX, 7, 3, 0], vec![7, 0, u64::MAX, 3]]);
+    let mut stores = vec![];
+    for order in orders {
+        let mut store = made(6);
+        for kid in order {
+            let role = [Role::Sending, Role::Receiving][(kid % 2) as usize];
+            assert_eq!(add(&mut store, role, 1 + kid % 2, kid, &BASE_KEY), Ok(0));
+        }
+        let [low, high] = [Some(0), Some(u64::MAX)];
+        assert_eq!(kids(&store), [low, Some(3), Some(7), high, None, None]);
+        stores.push(store);
+    }
+    assert!(stores.iter().all(|store| store == &stores[0]));
+
+    let mut store = stores.remove(0);
+    for (place, kid) in [0, 3, 7, u64::MAX].into_iter().enumerate() {
+        assert_eq!(find(&store, kid), Ok(place));
+    }
+    assert_eq!(find(&store, 1), Err(KidUnknown));
+    assert_eq!(find(&store[1..], 0), Err(StoreNotSound));
+    // A receiving key's record goes, and those behind it move up.
+    let behind = store[3 * RECORD..].to_vec();
+    assert_eq!(remove(&mut store, 7), Ok(0));
+    assert_eq!(store[2 * RECORD..5 * RECORD], behind);
+    assert_eq!(store[5 * RECORD..], [0; RECORD]);
+    assert_eq!(remove(&mut store, 0), Ok(0));
+    assert_eq!((find(&store, 0), store[0]), (Ok(0), State::Retired as u8));
+}
+
+#[test]
+fn stores_out_of_order_are_refused() {
+    let one = |kid| Record::new(State::Receiving, SUITES[0], kid, &BASE_KEY).encode();
+    let empty = [0; RECORD];
+    let sound = |records: &[[u8; RECORD]]| {
+        let answer = find(&records.concat(), 5);
+        assert!(matches!(answer, Ok(_) | Err(KidUnknown | StoreNotSound)));
+        answer != Err(StoreNotSound)
+    };
+    assert!(sound(&[one(0), one(1), one(u64::MAX)]));
+    assert!(sound(&[one(0), empty, empty]) && sound(&[empty, empty]));
+    assert!(!sound(&[one(1), one(0)]) && !sound(&[one(1), one(1)]));
+    assert!(!sound(&[empty, one(0)]) && !sound(&[one(0), empty, one(1)]));
+    assert!(!sound(&[one(u64::MAX), one(0)]) && !sound(&[one(1), one(3), one(2)]));
+    assert!(!sound(&[one(2), one(3), one(1)]) && sound(&[one(2), one(3), one(5)]));
 }
 
 #[test]
@@ -354,7 +412,7 @@ fn a_kid_once_sending_never_returns_and_a_received_one_may() {
     let mut store = filled(SUITES[2]);
     assert_eq!(remove(&mut store, 1), Ok(0));
     assert_eq!(remove(&mut store, 2), Ok(0));
-    assert_eq!(store[RECORD..2 * RECORD], [0; RECORD]);
+    assert_eq!(kids(&store), [Some(1), Some(3), None]);
     for kid in [1, 3] {
         refused(
             &store,
@@ -371,6 +429,7 @@ fn a_kid_once_sending_never_returns_and_a_received_one_may() {
     }
     // The room of KID 2 is the only one left.
     assert_eq!(add(&mut store, Role::Sending, 1, 2, &BASE_KEY), Ok(0));
+    assert_eq!(kids(&store), [Some(1), Some(2), Some(3)]);
     assert_eq!(store[RECORD..][..2], [1, 1]);
     refused(
         &store,

@@ -27,6 +27,12 @@ extern "C" {
     /// Removes a key.
     pub fn sframe_remove(store: *mut u8, store_len: usize, kid: u64) -> u32;
 
+    /// Removes a key, whose record is looked for at `place` first.
+    pub fn sframe_remove_near(store: *mut u8, store_len: usize, kid: u64, place: usize) -> u32;
+
+    /// The place of the record of a key number.
+    pub fn sframe_find(store: *const u8, store_len: usize, kid: u64, place: *mut usize) -> u32;
+
     /// Seals `plaintext` into a frame at the front of `out`.
     pub fn sframe_seal(
         store: *mut u8,
@@ -56,10 +62,42 @@ extern "C" {
         length: *mut usize,
     ) -> u32;
 
+    /// Seals `plaintext` into a frame at `offset` in `out`; the record is looked
+    /// for at `place` first.
+    pub fn sframe_seal_near(
+        store: *mut u8,
+        store_len: usize,
+        kid: u64,
+        place: usize,
+        metadata: *const u8,
+        metadata_len: usize,
+        plaintext: *const u8,
+        plaintext_len: usize,
+        out: *mut u8,
+        out_len: usize,
+        offset: usize,
+        length: *mut usize,
+    ) -> u32;
+
     /// Opens `frame` to its plaintext at the front of `out`.
     pub fn sframe_open(
         store: *mut u8,
         store_len: usize,
+        frame: *const u8,
+        frame_len: usize,
+        metadata: *const u8,
+        metadata_len: usize,
+        out: *mut u8,
+        out_len: usize,
+        length: *mut usize,
+    ) -> u32;
+
+    /// Opens `frame` to its plaintext at the front of `out`; the record is looked
+    /// for at `place` first.
+    pub fn sframe_open_near(
+        store: *mut u8,
+        store_len: usize,
+        place: usize,
         frame: *const u8,
         frame_len: usize,
         metadata: *const u8,

@@ -48,7 +48,7 @@ pub use limits::{
 };
 pub use metadata::Metadata;
 pub use ratchet::{ratchet, ratchet_kid, ratchet_to_vec};
-pub use record::{Record, State, Window};
+pub use record::{Place, Record, State, Window};
 pub use refusal::Refusal;
 pub use store::{Role, Store};
 pub use suite::Suite;

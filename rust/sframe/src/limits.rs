@@ -5,7 +5,7 @@ use crate::{Suite, MAX_HEADER};
 /// The length of a record: a store of `n` keys takes `n` times as many bytes.
 pub const RECORD: usize = 96;
 /// The most records of a store.
-pub const MAX_RECORDS: usize = 64;
+pub const MAX_RECORDS: usize = 1_024;
 /// The shortest base key.
 pub const MIN_BASE_KEY: usize = 16;
 /// The longest base key.

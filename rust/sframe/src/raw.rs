@@ -11,7 +11,10 @@ mod store;
 
 pub use header::{read_header, write_header, write_header_at, Read};
 pub use ratchet::{ratchet, ratchet_kid, RatchetKid};
-pub use store::{add_receiving, add_sending, make, open, remove, report, seal, seal_at, Report};
+pub use store::{
+    add_receiving, add_sending, find, make, open, open_near, remove, remove_near, report, seal,
+    seal_at, seal_near, Found, Report,
+};
 
 /// A value to start an answer from that no call leaves in place by chance.
 const UNSET: u64 = 0xa5a5_a5a5_a5a5_a5a5;

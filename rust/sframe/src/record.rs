@@ -25,11 +25,26 @@ impl fmt::Display for State {
     }
 }
 
+/// Where in a store a record stands, counted from 0.
+///
+/// Records stand by rising key number, so adding or removing a key moves those
+/// behind it. A place that is handed to a call is a guess: it never alters the
+/// answer, whatever it is. It does not pass for an offset:
+///
+/// ```compile_fail,E0308
+/// use sframe::{Kid, Metadata, Store, RECORD};
+///
+/// # let (mut bytes, mut room) = ([0; RECORD], [0; 100]);
+/// Store::over(&mut bytes).seal_near(Kid(200), 7, Metadata::NONE, b"", &mut room, 0);
+/// ```
+#[derive(Clone, Copy, Debug, PartialEq, Eq, Hash, PartialOrd, Ord)]
+pub struct Place(pub usize);
+
 /// One record of a store. Key and salt are not shown.
 #[derive(Clone, Copy, Debug, PartialEq, Eq, Hash)]
 pub struct Record {
-    /// Its place in the store, from 0.
-    pub place: usize,
+    /// Where it stands in the store.
+    pub place: Place,
     /// What it is for.
     pub state: State,
     /// The suite of its key.
@@ -69,11 +84,11 @@ pub(crate) fn decode(store: &[u8]) -> Vec<Record> {
     store
         .chunks_exact(RECORD)
         .enumerate()
-        .filter_map(|(place, bytes)| decode_one(place, bytes))
+        .filter_map(|(place, bytes)| decode_one(Place(place), bytes))
         .collect()
 }
 
-fn decode_one(place: usize, bytes: &[u8]) -> Option<Record> {
+fn decode_one(place: Place, bytes: &[u8]) -> Option<Record> {
     let (&[state, suite, spent, _layout], rest) = bytes.split_first_chunk()?;
     let (&kid, rest) = rest.split_first_chunk()?;
     let (&next, rest) = rest.split_first_chunk()?;

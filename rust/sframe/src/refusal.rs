@@ -19,8 +19,8 @@ use std::fmt;
 #[non_exhaustive]
 pub enum Refusal {
     /// A rule of the store's layout is broken, be it that its records are those
-    /// of 80 bytes that had no window; in making, the length is no multiple of 96
-    /// from 96 to 6,144.
+    /// of 80 bytes that had no window, or do not stand by rising key number; in
+    /// making, the length is no multiple of 96 from 96 to 98,304.
     StoreNotSound = 1,
     /// The suite's number is not 1 to 5. [`Suite`](crate::Suite) has no such
     /// value, so only [`raw`](crate::raw) calls get this answer.

@@ -1,7 +1,7 @@
 //! The store of keys in lent bytes.
 
 use crate::limits::{frame_room, MAX_PLAINTEXT};
-use crate::{raw, Kid, Metadata, Record, Refusal, StoreView, Suite};
+use crate::{raw, Kid, Metadata, Place, Record, Refusal, StoreView, Suite};
 use std::fmt;
 
 /// What a key is added for.
@@ -99,7 +99,7 @@ impl<'a> Store<'a> {
     /// ```
     /// use sframe::{Refusal, Store};
     ///
-    /// assert!(Store::make(&mut [0; 6_144]).is_ok());
+    /// assert!(Store::make(&mut [0; 98_304]).is_ok());
     /// assert_eq!(Store::make(&mut [0; 97]).err(), Some(Refusal::StoreNotSound));
     /// ```
     pub fn make(bytes: &'a mut [u8]) -> Result<Self, Refusal> {
@@ -121,8 +121,8 @@ impl<'a> Store<'a> {
         Store(bytes)
     }
 
-    /// Adds the key that `suite` derives from `base_key` for `kid`, in the first
-    /// empty record.
+    /// Adds the key that `suite` derives from `base_key` for `kid`, at the place of
+    /// its key number; the records behind move by one.
     ///
     /// A key number that was added for sending is never added again in this
     /// store, so that its counters do not start anew. A receiving key has opened
@@ -159,9 +159,9 @@ impl<'a> Store<'a> {
         Refusal::check(add(self.0, kid.0, suite.number(), base_key), ())
     }
 
-    /// Removes the key of `kid`. A receiving one leaves its record empty, and
-    /// which frames it has opened is forgotten; a sending one leaves a retired
-    /// record that keeps the key number.
+    /// Removes the key of `kid`. A receiving one's record goes, those behind move
+    /// by one, and which frames it has opened is forgotten; a sending one leaves a
+    /// retired record that keeps the key number.
     ///
     /// Refusals, the first that holds: [`StoreNotSound`](Refusal::StoreNotSound),
     /// [`KidUnknown`](Refusal::KidUnknown), [`WrongRole`](Refusal::WrongRole).
@@ -180,6 +180,16 @@ impl<'a> Store<'a> {
     /// ```
     pub fn remove(&mut self, kid: Kid) -> Result<(), Refusal> {
         Refusal::check(raw::remove(self.0, kid.0), ())
+    }
+
+    /// As [`remove`](Self::remove); the record is looked for at `place` first.
+    pub fn remove_near(&mut self, kid: Kid, place: Place) -> Result<(), Refusal> {
+        Refusal::check(raw::remove_near(self.0, kid.0, place.0), ())
+    }
+
+    /// As [`StoreView::find`].
+    pub fn find(&self, kid: Kid) -> Result<Place, Refusal> {
+        self.view().find(kid)
     }
 
     /// Seals `plaintext` under the key of `kid` and its next counter, into a
@@ -236,6 +246,37 @@ impl<'a> Store<'a> {
         Refusal::check(written.number, written.length)
     }
 
+    /// As [`seal_at`](Self::seal_at); the record is looked for at `place` first.
+    ///
+    /// ```
+    /// use sframe::{Kid, Metadata, Place, Role, Store, Suite, RECORD};
+    ///
+    /// let mut bytes = [0; 2 * RECORD];
+    /// let mut store = Store::make(&mut bytes)?;
+    /// store.add(Role::Sending, Suite::Aes128GcmSha256_128, Kid(1), &[7; 16])?;
+    /// let right = store.find(Kid(1))?;
+    ///
+    /// // Whatever the place is, the answer is the same.
+    /// let mut room = [0; 24];
+    /// for place in [right, Place(1), Place(usize::MAX)] {
+    ///     let length = store.seal_near(Kid(1), place, Metadata::NONE, b"", &mut room, 7)?;
+    ///     assert_eq!(length, 17);
+    /// }
+    /// # Ok::<(), sframe::Refusal>(())
+    /// ```
+    pub fn seal_near(
+        &mut self,
+        kid: Kid,
+        place: Place,
+        metadata: Metadata,
+        plaintext: &[u8],
+        room: &mut [u8],
+        offset: usize,
+    ) -> Result<usize, Refusal> {
+        let written = raw::seal_near(self.0, kid.0, place.0, metadata.0, plaintext, room, offset);
+        Refusal::check(written.number, written.length)
+    }
+
     /// Seals `plaintext` into a frame of its own. Refuses as [`seal`](Self::seal)
     /// does, except that the room suffices.
     ///
@@ -284,6 +325,18 @@ impl<'a> Store<'a> {
         room: &mut [u8],
     ) -> Result<usize, Refusal> {
         let written = raw::open(self.0, frame, metadata.0, room);
+        Refusal::check(written.number, written.length)
+    }
+
+    /// As [`open`](Self::open); the record is looked for at `place` first.
+    pub fn open_near(
+        &mut self,
+        place: Place,
+        frame: &[u8],
+        metadata: Metadata,
+        room: &mut [u8],
+    ) -> Result<usize, Refusal> {
+        let written = raw::open_near(self.0, place.0, frame, metadata.0, room);
         Refusal::check(written.number, written.length)
     }
 

@@ -1,6 +1,6 @@
-//! A store that is only read: reporting and listing.
+//! A store that is only read: finding, reporting and listing.
 
-use crate::record::{self, Record};
+use crate::record::{self, Place, Record};
 use crate::{raw, Kid, Refusal};
 use std::fmt;
 
@@ -30,6 +30,30 @@ impl<'a> StoreView<'a> {
     /// A view of a store's bytes. Each call judges them anew.
     pub fn over(bytes: &'a [u8]) -> Self {
         StoreView(bytes)
+    }
+
+    /// Where the record of `kid` stands, be it a retired one.
+    ///
+    /// Refusals, the first that holds: [`StoreNotSound`](Refusal::StoreNotSound),
+    /// [`KidUnknown`](Refusal::KidUnknown).
+    ///
+    /// ```
+    /// use sframe::{Kid, Place, Refusal, Role, Store, Suite, RECORD};
+    ///
+    /// let mut bytes = [0; 3 * RECORD];
+    /// let mut store = Store::make(&mut bytes)?;
+    /// store.add(Role::Sending, Suite::Aes128GcmSha256_128, Kid(200), &[7; 16])?;
+    /// assert_eq!(store.find(Kid(200)), Ok(Place(0)));
+    ///
+    /// // A lower number goes before it.
+    /// store.add(Role::Receiving, Suite::Aes128GcmSha256_128, Kid(56), &[7; 16])?;
+    /// assert_eq!(store.find(Kid(200)), Ok(Place(1)));
+    /// assert_eq!(store.find(Kid(7)), Err(Refusal::KidUnknown));
+    /// # Ok::<(), Refusal>(())
+    /// ```
+    pub fn find(self, kid: Kid) -> Result<Place, Refusal> {
+        let found = raw::find(self.0, kid.0);
+        Refusal::check(found.number, Place(found.place))
     }
 
     /// How many of the last [`WINDOW`](crate::WINDOW) counters were opened under
@@ -67,14 +91,14 @@ impl<'a> StoreView<'a> {
 
     /// Refuses with [`Refusal::StoreNotSound`] unless the store is sound.
     pub fn check(self) -> Result<(), Refusal> {
-        // A report judges the store before it looks for a key number, be it any.
-        match self.report(Kid(0)) {
+        // A search judges the store before it looks for a key number, be it any.
+        match self.find(Kid(0)) {
             Err(Refusal::StoreNotSound) => Err(Refusal::StoreNotSound),
             _ => Ok(()),
         }
     }
 
-    /// The records in use, by rising place.
+    /// The records in use, by rising place and key number.
     ///
     /// Refuses with [`Refusal::StoreNotSound`].
     pub fn records(self) -> Result<Vec<Record>, Refusal> {

@@ -3,8 +3,8 @@
 use reference::record::{Record, State as ReferenceState};
 use reference::suites::Suite as ReferenceSuite;
 use sframe::{
-    frame_room, raw, Ctr, Kid, Metadata, Refusal, Role, State, Store, StoreView, Suite, Window,
-    MAX_COUNTER, MAX_METADATA, MAX_PLAINTEXT, MAX_RECORDS, RECORD,
+    frame_room, raw, Ctr, Kid, Metadata, Place, Refusal, Role, State, Store, StoreView, Suite,
+    Window, MAX_COUNTER, MAX_METADATA, MAX_PLAINTEXT, MAX_RECORDS, RECORD,
 };
 
 const KID: Kid = Kid(200);
@@ -138,12 +138,16 @@ fn records_of_every_state() {
         .into_iter()
         .map(|r| (r.place, r.state, r.suite, r.kid, r.next))
         .collect();
+    let last = Kid(u64::MAX);
     let expected = [
-        (0, State::Receiving, Suite::ALL[2], Kid(4), Ctr(0)),
-        (1, State::Sending, Suite::ALL[1], Kid(u64::MAX), Ctr(0)),
-        (2, State::Retired, Suite::ALL[4], Kid(3), Ctr(3)),
+        (Place(0), State::Retired, Suite::ALL[4], Kid(3), Ctr(3)),
+        (Place(1), State::Receiving, Suite::ALL[2], Kid(4), Ctr(0)),
+        (Place(2), State::Sending, Suite::ALL[1], last, Ctr(0)),
     ];
     assert_eq!(seen, expected);
+    for (place, _, _, kid, _) in expected {
+        assert_eq!(store.find(kid), Ok(place));
+    }
 }
 
 #[test]
@@ -211,6 +215,46 @@ fn windows() {
     assert_eq!(ward.records().unwrap()[0].window, None);
     let nothing = StoreView::over(&[]);
     assert_eq!(nothing.report(KID), Err(Refusal::StoreNotSound));
+}
+
+/// A place, right or wrong, changes nothing of what a call answers and leaves.
+#[test]
+fn places() {
+    let wrong = [1, 2, 3, usize::MAX / RECORD + 1, usize::MAX];
+    for suite in Suite::ALL {
+        let (ward, doctor) = stores(suite);
+        let mut expected = [0; 40];
+        let mut plain = ward;
+        let length = Store::over(&mut plain)
+            .seal_at(KID, Metadata::NONE, b"", &mut expected, 5)
+            .unwrap();
+        let frame = &expected[5..5 + length];
+        let (mut opened, mut removed) = (doctor, doctor);
+        Store::over(&mut opened)
+            .open(frame, Metadata::NONE, &mut [])
+            .unwrap();
+        Store::over(&mut removed).remove(KID).unwrap();
+
+        assert_eq!(StoreView::over(&ward).find(KID), Ok(Place(0)));
+        for place in wrong.into_iter().chain([0]).map(Place) {
+            let (mut sealing, mut room) = (ward, [0; 40]);
+            let answer =
+                Store::over(&mut sealing).seal_near(KID, place, Metadata::NONE, b"", &mut room, 5);
+            assert_eq!(answer, Ok(length));
+            assert_eq!((sealing, room), (plain, expected));
+            let mut opening = doctor;
+            let answer = Store::over(&mut opening).open_near(place, frame, Metadata::NONE, &mut []);
+            assert_eq!((answer, opening), (Ok(0), opened));
+            let mut removing = doctor;
+            let answer = Store::over(&mut removing).remove_near(KID, place);
+            assert_eq!((answer, removing), (Ok(()), removed));
+
+            let unknown = Store::over(&mut removing).remove_near(Kid(0), place);
+            assert_eq!(unknown, Err(Refusal::KidUnknown));
+        }
+        let nothing = StoreView::over(&[]);
+        assert_eq!(nothing.find(KID), Err(Refusal::StoreNotSound));
+    }
 }
 
 /// Debug output goes to logs, where no key belongs.

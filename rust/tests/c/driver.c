@@ -4,7 +4,7 @@
  *
  *     call     1 byte, which one; 3 numbers of 8 bytes; 4 lengths of 8 bytes; then so many bytes of each of
  *              store, first, second and room
- *     answer   4 bytes, the call's number; 4 numbers of 8 bytes: length, KID, CTR, count; then store and room
+ *     answer   4 bytes, the call's number; 5 numbers of 8 bytes: length, KID, CTR, count, place; then store and room
  *
  * Ends with status 0 where the input ends between two calls, and says on standard error how many there were.
  */
@@ -33,6 +33,7 @@ struct answer {
     uint32_t number;
     size_t length;
     uint64_t kid, ctr, count;
+    size_t place;
 };
 
 static void stop(const char *why)
@@ -99,7 +100,7 @@ static void take_back(uint8_t *lent, size_t length)
 
 static struct answer make(int which, struct call *c)
 {
-    struct answer a = { 0, 0, 0, 0, 0 };
+    struct answer a = { 0, 0, 0, 0, 0, 0 };
     const uint64_t *n = c->number;
     const size_t *l = c->length;
     uint8_t *const *b = c->lent;
@@ -144,6 +145,18 @@ static struct answer make(int which, struct call *c)
     case 12:
         a.number = sframe_report(b[STORE], l[STORE], n[0], &a.count);
         break;
+    case 13:
+        a.number = sframe_remove_near(b[STORE], l[STORE], n[0], n[1]);
+        break;
+    case 14:
+        a.number = sframe_find(b[STORE], l[STORE], n[0], &a.place);
+        break;
+    case 15:
+        a.number = sframe_seal_near(b[STORE], l[STORE], n[0], n[1], b[FIRST], l[FIRST], b[SECOND], l[SECOND], b[ROOM], l[ROOM], n[2], &a.length);
+        break;
+    case 16:
+        a.number = sframe_open_near(b[STORE], l[STORE], n[0], b[FIRST], l[FIRST], b[SECOND], l[SECOND], b[ROOM], l[ROOM], &a.length);
+        break;
     default:
         stop("there is no such call");
     }
@@ -177,6 +190,7 @@ int main(void)
         give_number(a.kid, 8);
         give_number(a.ctr, 8);
         give_number(a.count, 8);
+        give_number(a.place, 8);
         give(c.lent[STORE], c.length[STORE]);
         give(c.lent[ROOM], c.length[ROOM]);
         if (fflush(stdout) != 0) {

@@ -1,6 +1,6 @@
 /*
  * Prints how much stack each call takes at most: it is made on a stack of its own that was filled with a pattern, on the
- * longest inputs and a store of 64 records, and what a call that does nothing takes is left out. Suite 3 is suite 1 with
+ * longest inputs and a store of 1,024 records, and what a call that does nothing takes is left out. Suite 3 is suite 1 with
  * a shorter tag, and is not tried.
  */
 #define _XOPEN_SOURCE 700
@@ -12,7 +12,7 @@
 
 #include "sframe.h"
 
-enum { STACK = 1 << 18, PATTERN = 0xa5, RECORDS = 64 };
+enum { STACK = 1 << 18, PATTERN = 0xa5, RECORDS = SFRAME_MAX_KEYS };
 
 static const uint64_t SUITES[] = { 1, 2, 4, 5 };
 
@@ -20,7 +20,7 @@ static uint8_t stack[STACK];
 static uint8_t sending[SFRAME_STORE_SIZE(RECORDS)], receiving[SFRAME_STORE_SIZE(RECORDS)];
 static uint8_t plaintext[SFRAME_MAX_PLAINTEXT], metadata[SFRAME_MAX_METADATA], opened[SFRAME_MAX_PLAINTEXT];
 static uint8_t frame[SFRAME_FRAME_ROOM(SFRAME_MAX_PLAINTEXT)], key[SFRAME_MAX_BASE_KEY];
-static size_t frame_len, length;
+static size_t frame_len, length, place;
 static uint64_t suite, kid, ctr, count;
 static uint32_t answer;
 
@@ -30,6 +30,7 @@ static void make_other(void) { answer = sframe_make(receiving, sizeof receiving)
 static void add_sending(void) { answer = sframe_add_sending(sending, sizeof sending, RECORDS, suite, key, sizeof key); }
 static void add_receiving(void) { answer = sframe_add_receiving(receiving, sizeof receiving, RECORDS, suite, key, sizeof key); }
 static void remove_key(void) { answer = sframe_remove(sending, sizeof sending, RECORDS); }
+static void remove_near(void) { answer = sframe_remove_near(receiving, sizeof receiving, RECORDS, 1); }
 
 static void seal(void)
 {
@@ -41,11 +42,23 @@ static void seal_at(void)
     answer = sframe_seal_at(sending, sizeof sending, RECORDS, metadata, sizeof metadata, plaintext, sizeof plaintext, frame, sizeof frame, 0, &frame_len);
 }
 
+/* A wrong place, so that the record is searched for. */
+static void seal_near(void)
+{
+    answer = sframe_seal_near(sending, sizeof sending, RECORDS, 1, metadata, sizeof metadata, plaintext, sizeof plaintext, frame, sizeof frame, 0, &frame_len);
+}
+
 static void open_frame(void)
 {
     answer = sframe_open(receiving, sizeof receiving, frame, frame_len, metadata, sizeof metadata, opened, sizeof opened, &length);
 }
 
+static void open_near(void)
+{
+    answer = sframe_open_near(receiving, sizeof receiving, 1, frame, frame_len, metadata, sizeof metadata, opened, sizeof opened, &length);
+}
+
+static void find(void) { answer = sframe_find(receiving, sizeof receiving, RECORDS, &place); }
 static void report(void) { answer = sframe_report(receiving, sizeof receiving, RECORDS, &count); }
 static void write_header(void) { answer = sframe_write_header(UINT64_MAX, UINT64_MAX, frame, sizeof frame, &length); }
 static void write_header_at(void) { answer = sframe_write_header_at(UINT64_MAX, UINT64_MAX, frame, sizeof frame, 1, &length); }
@@ -86,8 +99,12 @@ static const struct {
     { "sframe_seal", seal },
     { "sframe_seal_at", seal_at },
     { "sframe_open", open_frame },
+    { "sframe_seal_near", seal_near },
+    { "sframe_open_near", open_near },
+    { "sframe_find", find },
     { "sframe_report", report },
     { "sframe_remove", remove_key },
+    { "sframe_remove_near", remove_near },
     { "sframe_write_header_at", write_header_at },
     { "sframe_write_header", write_header },
     { "sframe_read_header", read_header },

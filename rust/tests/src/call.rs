@@ -5,10 +5,10 @@ use crate::lent::Lent;
 use crate::number::DONE;
 use crate::WINDOW_AT;
 use reference::header::read_header;
-use reference::record::Record;
 use reference::refusal::number_and_length;
-use sframe::raw::{Report, Written};
+use sframe::raw::{Found, Report, Written};
 use sframe::{Role, RECORD};
+use std::cell::Cell;
 use std::fmt;
 use testkit::PATTERN;
 
@@ -41,6 +41,9 @@ pub enum Call<'a> {
     Report {
         kid: u64,
     },
+    Find {
+        kid: u64,
+    },
 }
 
 /// What a call answered and left.
@@ -52,6 +55,8 @@ pub struct Outcome {
     pub length: usize,
     /// What a report counted; 0 of every other call.
     pub count: u64,
+    /// Where a record was found; 0 of every other call.
+    pub place: usize,
     /// Where in the room the result stands.
     pub offset: usize,
     /// The store afterwards.
@@ -70,22 +75,43 @@ impl Outcome {
     }
 }
 
+/// By which of the layer's functions a call is made.
+#[derive(Clone, Copy)]
+enum Way {
+    /// The one that takes all that the call is given.
+    Whole,
+    /// Sealing by the one that takes no offset.
+    AtFront,
+    /// Sealing, opening and removing by the one that takes a place too.
+    Near(usize),
+}
+
+thread_local! {
+    /// How many calls the thread has compared.
+    static TURN: Cell<usize> = const { Cell::new(0) };
+}
+
 /// Makes `call` on a copy of `store` on both sides, and checks that number,
-/// length, count, store and room are the same, that a refusal left everything as
-/// it was, that an opening changed the window of its own record alone, and that
-/// nothing before or behind a result was written. Sealing at offset 0 is made by
-/// both of its calls.
+/// length, count, place, store and room are the same, that a refusal left
+/// everything as it was, that an opening changed the window of its own record
+/// alone, and that nothing before or behind a result was written. Sealing at
+/// offset 0 is made by both of its calls, and every second call that takes a
+/// place is made with one.
 #[track_caller]
 pub fn compare(store: &[u8], call: Call) -> Outcome {
-    let ours = on_layer(store, call);
+    let ours = on_layer(store, call, Way::Whole);
     if matches!(call, Call::Seal { offset: 0, .. }) {
-        assert!(ours == at_front(store, call), "{call}: both ways to seal");
+        let front = on_layer(store, call, Way::AtFront);
+        assert!(ours == front, "{call}: both ways to seal");
+    }
+    if let Some(place) = next_place(store, call) {
+        check_near(store, call, place, &ours);
     }
     let theirs = on_reference(store, call);
     assert_eq!(
-        (ours.number, ours.length, ours.count),
-        (theirs.number, theirs.length, theirs.count),
-        "{call}: number, length and count"
+        (ours.number, ours.length, ours.count, ours.place),
+        (theirs.number, theirs.length, theirs.count, theirs.place),
+        "{call}: number, length, count and place"
     );
     check_same("store", &ours.store, &theirs.store, call);
     check_same("room", &ours.room, &theirs.room, call);
@@ -97,7 +123,7 @@ pub fn compare(store: &[u8], call: Call) -> Outcome {
         front.iter().chain(behind).all(|&byte| byte == PATTERN),
         "{call}: wrote beside its result"
     );
-    if ours.number != DONE || matches!(call, Call::Report { .. }) {
+    if ours.number != DONE || matches!(call, Call::Report { .. } | Call::Find { .. }) {
         check_same("store before and after", &ours.store, store, call);
     }
     if let (DONE, Call::Open { frame, .. }) = (ours.number, call) {
@@ -107,18 +133,55 @@ pub fn compare(store: &[u8], call: Call) -> Outcome {
         check_same("store but for the window", &left, store, call);
     }
     if ours.number != DONE {
-        assert_eq!((ours.length, ours.count), (0, 0), "{call}: refused");
+        let numbers = (ours.length, ours.count, ours.place);
+        assert_eq!(numbers, (0, 0, 0), "{call}: refused");
     }
     ours
+}
+
+/// Makes a call as [`compare`] does, and with this place too: it alters nothing.
+#[track_caller]
+pub fn compare_near(store: &[u8], call: Call, place: usize) -> Outcome {
+    let outcome = compare(store, call);
+    check_near(store, call, place, &outcome);
+    outcome
+}
+
+#[track_caller]
+fn check_near(store: &[u8], call: Call, place: usize, expected: &Outcome) {
+    let near = on_layer(store, call, Way::Near(place));
+    assert!(near == *expected, "{call}: other with place {place}");
+}
+
+/// A place for every second call that takes one: the right one, where there is
+/// one, and others in turn.
+fn next_place(store: &[u8], call: Call) -> Option<usize> {
+    let kid = match call {
+        Call::Remove { kid } | Call::Seal { kid, .. } => Some(kid),
+        Call::Open { frame, .. } => read_header(frame).map(|(kid, _, _)| kid),
+        _ => return None,
+    };
+    let turn = TURN.replace(TURN.get() + 1);
+    if turn % 2 == 1 {
+        return None;
+    }
+    let right = kid.and_then(|kid| reference::store::find(store, kid).ok());
+    let records = store.len() / RECORD;
+    Some(match turn / 2 % 6 {
+        0 | 1 => right.unwrap_or(0),
+        2 => right.map_or(1, |place| place + 1),
+        3 => turn / 12 % (records + 1),
+        4 => usize::MAX - turn / 12 % 3,
+        // Times the length of a record it is one of the store's again.
+        _ => 1 << 59 | right.unwrap_or(0),
+    })
 }
 
 /// Where in a sound store the window of a frame's key stands.
 fn window_of(store: &[u8], frame: &[u8]) -> usize {
     let (kid, _, _) = read_header(frame).expect("an opened frame has a header");
-    let holds =
-        |bytes: &[u8]| matches!(Record::decode(bytes), Ok(Some(record)) if record.kid == kid);
-    let place = store.chunks_exact(RECORD).position(holds);
-    place.expect("an opened frame has a key") * RECORD + WINDOW_AT
+    let place = reference::store::find(store, kid).expect("an opened frame has a key");
+    place * RECORD + WINDOW_AT
 }
 
 #[track_caller]
@@ -130,13 +193,14 @@ fn check_same(what: &str, ours: &[u8], theirs: &[u8], call: Call) {
 }
 
 #[track_caller]
-fn on_layer(store: &[u8], call: Call) -> Outcome {
+fn on_layer(store: &[u8], call: Call, way: Way) -> Outcome {
     let mut store = Lent::copy(store);
     let mut room = Lent::room(call.room());
-    let mut count = 0;
+    let (mut count, mut place) = (0, 0);
     let done = |number| Written { number, length: 0 };
+    let (bytes, out) = (store.lend(), room.lend());
     let Written { number, length } = match call {
-        Call::Make => done(layer::make(store.lend())),
+        Call::Make => done(layer::make(bytes)),
         Call::Add {
             role,
             suite,
@@ -147,66 +211,58 @@ fn on_layer(store: &[u8], call: Call) -> Outcome {
                 Role::Sending => layer::add_sending,
                 Role::Receiving => layer::add_receiving,
             };
-            done(add(store.lend(), kid, suite, base_key))
+            done(add(bytes, kid, suite, base_key))
         }
-        Call::Remove { kid } => done(layer::remove(store.lend(), kid)),
+        Call::Remove { kid } => done(match way {
+            Way::Near(place) => layer::remove_near(bytes, kid, place),
+            _ => layer::remove(bytes, kid),
+        }),
         Call::Seal {
             kid,
             metadata,
             plaintext,
             offset,
             ..
-        } => layer::seal_at(store.lend(), kid, metadata, plaintext, room.lend(), offset),
+        } => match way {
+            Way::Near(place) => {
+                layer::seal_near(bytes, kid, place, metadata, plaintext, out, offset)
+            }
+            Way::AtFront => layer::seal(bytes, kid, metadata, plaintext, out),
+            Way::Whole => layer::seal_at(bytes, kid, metadata, plaintext, out, offset),
+        },
         Call::Open {
             frame, metadata, ..
-        } => layer::open(store.lend(), frame, metadata, room.lend()),
+        } => match way {
+            Way::Near(place) => layer::open_near(bytes, place, frame, metadata, out),
+            _ => layer::open(bytes, frame, metadata, out),
+        },
         Call::Report { kid } => {
-            let report: Report = layer::report(store.lend(), kid);
+            let report: Report = layer::report(bytes, kid);
             count = report.count;
             done(report.number)
+        }
+        Call::Find { kid } => {
+            let found: Found = layer::find(bytes, kid);
+            place = found.place;
+            done(found.number)
         }
     };
     Outcome {
         number,
         length,
         count,
+        place,
         offset: call.offset(),
         store: store.take_back(),
         room: room.take_back(),
     }
 }
 
-/// Sealing by the call that takes no offset.
-#[track_caller]
-fn at_front(store: &[u8], call: Call) -> Outcome {
-    let Call::Seal {
-        kid,
-        metadata,
-        plaintext,
-        ..
-    } = call
-    else {
-        unreachable!("{call} does not seal")
-    };
-    let mut store = Lent::copy(store);
-    let mut room = Lent::room(call.room());
-    let Written { number, length } =
-        layer::seal(store.lend(), kid, metadata, plaintext, room.lend());
-    Outcome {
-        number,
-        length,
-        count: 0,
-        offset: 0,
-        store: store.take_back(),
-        room: room.take_back(),
-    }
-}
-
 fn on_reference(store: &[u8], call: Call) -> Outcome {
-    use reference::store::{add, make, open, remove, report, seal_at, Role as ReferenceRole};
+    use reference::store::{add, find, make, open, remove, report, seal_at, Role as ReferenceRole};
     let mut store = store.to_vec();
     let mut room = vec![PATTERN; call.room()];
-    let mut count = 0;
+    let (mut count, mut place) = (0, 0);
     let answer = match call {
         Call::Make => make(&mut store),
         Call::Add {
@@ -236,12 +292,17 @@ fn on_reference(store: &[u8], call: Call) -> Outcome {
             count = opened;
             0
         }),
+        Call::Find { kid } => find(&store, kid).map(|found| {
+            place = found;
+            0
+        }),
     };
     let (number, length) = number_and_length(answer);
     Outcome {
         number,
         length,
         count,
+        place,
         offset: call.offset(),
         store,
         room,
@@ -253,7 +314,7 @@ impl Call<'_> {
     fn room(&self) -> usize {
         match *self {
             Call::Seal { room, .. } | Call::Open { room, .. } => room,
-            Call::Make | Call::Add { .. } | Call::Remove { .. } | Call::Report { .. } => 0,
+            _ => 0,
         }
     }
 
@@ -306,6 +367,7 @@ impl fmt::Display for Call<'_> {
                 metadata.len()
             ),
             Call::Report { kid } => write!(f, "Report, KID {kid:#x}"),
+            Call::Find { kid } => write!(f, "Find, KID {kid:#x}"),
         }
     }
 }

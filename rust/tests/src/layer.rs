@@ -2,7 +2,7 @@
 //! command, a program that has another build of it linked (`c/driver.c`). Each
 //! thread starts that program once, and makes its calls by it.
 
-use sframe::raw::{self, RatchetKid, Read as ReadHeader, Report, Written};
+use sframe::raw::{self, Found, RatchetKid, Read as ReadHeader, Report, Written};
 use std::cell::RefCell;
 use std::env;
 use std::io::{Read, Write};
@@ -24,6 +24,10 @@ enum Which {
     SealAt,
     WriteHeaderAt,
     Report,
+    RemoveNear,
+    Find,
+    SealNear,
+    OpenNear,
 }
 
 /// What a driver answers beside store and room.
@@ -33,6 +37,7 @@ struct Answer {
     kid: u64,
     ctr: u64,
     count: u64,
+    place: usize,
 }
 
 impl Answer {
@@ -92,7 +97,7 @@ impl Driver {
         let input = self.input.as_mut().expect("the driver has not ended");
         input.write_all(&call).expect("the driver reads");
 
-        let mut head = [0; 36];
+        let mut head = [0; 44];
         let mut read = |bytes: &mut [u8]| self.output.read_exact(bytes).expect("it answers");
         read(&mut head);
         read(store);
@@ -104,6 +109,7 @@ impl Driver {
             kid: number(12),
             ctr: number(20),
             count: number(28),
+            place: number(36) as usize,
         }
     }
 }
@@ -165,6 +171,25 @@ pub fn remove(store: &mut [u8], kid: u64) -> u32 {
     }
 }
 
+pub fn remove_near(store: &mut [u8], kid: u64, place: usize) -> u32 {
+    let numbers = [kid, place as u64, 0];
+    match driven(Which::RemoveNear, numbers, store, [&[]; 2], &mut []) {
+        Some(answer) => answer.number,
+        None => raw::remove_near(store, kid, place),
+    }
+}
+
+/// The store that the driver's call left is compared too.
+pub fn find(store: &mut [u8], kid: u64) -> Found {
+    match driven(Which::Find, [kid, 0, 0], store, [&[]; 2], &mut []) {
+        Some(answer) => Found {
+            number: answer.number,
+            place: answer.place,
+        },
+        None => raw::find(store, kid),
+    }
+}
+
 pub fn seal(
     store: &mut [u8],
     kid: u64,
@@ -194,10 +219,40 @@ pub fn seal_at(
     }
 }
 
+pub fn seal_near(
+    store: &mut [u8],
+    kid: u64,
+    place: usize,
+    metadata: &[u8],
+    plaintext: &[u8],
+    room: &mut [u8],
+    offset: usize,
+) -> Written {
+    let numbers = [kid, place as u64, offset as u64];
+    match driven(Which::SealNear, numbers, store, [metadata, plaintext], room) {
+        Some(answer) => answer.written(),
+        None => raw::seal_near(store, kid, place, metadata, plaintext, room, offset),
+    }
+}
+
 pub fn open(store: &mut [u8], frame: &[u8], metadata: &[u8], room: &mut [u8]) -> Written {
     match driven(Which::Open, [0; 3], store, [frame, metadata], room) {
         Some(answer) => answer.written(),
         None => raw::open(store, frame, metadata, room),
+    }
+}
+
+pub fn open_near(
+    store: &mut [u8],
+    place: usize,
+    frame: &[u8],
+    metadata: &[u8],
+    room: &mut [u8],
+) -> Written {
+    let numbers = [place as u64, 0, 0];
+    match driven(Which::OpenNear, numbers, store, [frame, metadata], room) {
+        Some(answer) => answer.written(),
+        None => raw::open_near(store, place, frame, metadata, room),
     }
 }
 

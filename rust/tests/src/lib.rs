@@ -10,7 +10,7 @@ mod lent;
 mod ratchet;
 mod stores;
 
-pub use call::{compare, Call, Outcome};
+pub use call::{compare, compare_near, Call, Outcome};
 pub use header::{compare_read_header, compare_write_header, compare_write_header_at, forms};
 pub use ratchet::{compare_kid, compare_walk};
 pub use stores::{

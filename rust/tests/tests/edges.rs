@@ -31,9 +31,10 @@ fn seal<'a>(metadata: &'a [u8], plaintext: &'a [u8]) -> Call<'a> {
 }
 
 #[test]
-fn make_takes_96_to_6144_bytes_in_steps_of_96() {
-    for length in 0..=7_000 {
-        let accepted = (96..=6_144).contains(&length) && length % 96 == 0;
+fn make_takes_96_to_98304_bytes_in_steps_of_96() {
+    let steps = (65..=1_026).flat_map(|records| [records * 96 - 1, records * 96, records * 96 + 1]);
+    for length in (0..=7_000).chain(steps) {
+        let accepted = (96..=98_304).contains(&length) && length % 96 == 0;
         let outcome = compare(&vec![0x5a; length], Call::Make);
         assert_eq!(outcome.number == DONE, accepted, "{length} bytes");
         let left = if accepted { 0 } else { 0x5a };
@@ -225,32 +226,35 @@ fn rooms_of_every_length() {
 }
 
 #[test]
-fn the_64th_key_fits_and_the_65th_does_not() {
+fn the_1024th_key_fits_and_the_1025th_does_not() {
     for role in [Role::Sending, Role::Receiving] {
-        for records in [1, 2, 63, MAX_RECORDS] {
+        for records in [1, 2, 3, 64, 65, MAX_RECORDS] {
             let mut store = made(records);
-            for place in 0..records {
-                let key = Key::any(SUITES[place % 5], 1_000 - place as u64);
+            for added in 0..records {
+                // Each one goes before those that are there.
+                let key = Key::any(SUITES[added % 5], 2_000 - added as u64);
                 store = with_key(&store, role, &key);
-                // Keys fill the records in order.
-                assert!(store[place * RECORD] != 0);
-                assert!(store[(place + 1) * RECORD..].iter().all(|&byte| byte == 0));
+                assert!(store[added * RECORD] != 0);
+                assert!(store[(added + 1) * RECORD..].iter().all(|&byte| byte == 0));
             }
-            let more = Key::any(SUITES[0], 2_000);
+            let more = Key::any(SUITES[0], 3_000);
             assert_eq!(compare(&store, more.add(role)).number, STORE_FULL);
 
-            // The last key works in a full store.
-            let kid = 1_001 - records as u64;
-            after(&store, Call::Remove { kid });
-            if role == Role::Sending {
-                let sealing = Call::Seal {
-                    kid,
-                    metadata: b"",
-                    plaintext: b"picture",
-                    offset: 0,
-                    room: 64,
-                };
-                done(&store, sealing);
+            // The first and the last key work in a full store.
+            for (place, kid) in [(0, 2_001 - records as u64), (records - 1, 2_000)] {
+                let found = done(&store, Call::Find { kid });
+                assert_eq!(found.place, place);
+                after(&store, Call::Remove { kid });
+                if role == Role::Sending {
+                    let sealing = Call::Seal {
+                        kid,
+                        metadata: b"",
+                        plaintext: b"picture",
+                        offset: 0,
+                        room: 64,
+                    };
+                    done(&store, sealing);
+                }
             }
         }
     }
@@ -346,25 +350,31 @@ fn removed_keys() {
     store = with_key(&store, Role::Receiving, &key(2));
     store = with_key(&store, Role::Receiving, &key(3));
 
-    // Never used, and retired all the same.
+    // Never used, and retired all the same, where it stands.
     store = after(&store, Call::Remove { kid: 1 });
+    assert_eq!(store[0], 3);
     assert_eq!(compare(&store, Call::Remove { kid: 1 }).number, WRONG_ROLE);
     for role in [Role::Sending, Role::Receiving] {
         assert_eq!(compare(&store, key(1).add(role)).number, KID_HELD);
     }
+    // The gap is closed by the key behind.
+    let third = store[2 * RECORD..].to_vec();
     store = after(&store, Call::Remove { kid: 2 });
     assert_eq!(compare(&store, Call::Remove { kid: 2 }).number, KID_UNKNOWN);
-    assert_eq!(store[RECORD..2 * RECORD], [0; RECORD]);
+    assert_eq!(store[RECORD..2 * RECORD], third);
+    assert_eq!(store[2 * RECORD..], [0; RECORD]);
 
-    // The lowest empty record is filled, by a KID that returns in the other role.
-    store = after(&store, Call::Remove { kid: 3 });
+    // A KID that returns in the other role has its place again.
     store = with_key(&store, Role::Sending, &key(2));
     assert_eq!(store[RECORD], 1);
-    store = with_key(&store, Role::Receiving, &key(3));
+    assert_eq!(store[2 * RECORD..], third);
     assert_eq!(
         compare(&store, key(4).add(Role::Sending)).number,
         STORE_FULL
     );
+    store = after(&store, Call::Remove { kid: 3 });
+    store = with_key(&store, Role::Receiving, &key(0));
+    assert_eq!([0, 1, 2].map(|place| store[place * RECORD]), [2, 3, 1]);
 }
 
 /// Key numbers with the top bit of a byte set are numbers like any other.

@@ -13,7 +13,7 @@ use list::{Tally, Terminal};
 use testkit::Generator;
 
 /// Lists on stores of each of these sizes.
-const RECORDS: [usize; 8] = [1, 2, 3, 5, 8, 16, 33, 64];
+const RECORDS: [usize; 8] = [1, 2, 3, 5, 8, 16, 33, 70];
 
 #[test]
 fn two_terminals() {
@@ -58,7 +58,7 @@ fn two_terminals() {
 fn any_sound_store() {
     let mut generator = Generator::new(0x6c69_7374_7300_0002);
     let mut tally = Tally::default();
-    for _ in 0..2_500 {
+    for _ in 0..3_500 {
         let mut store = list::sound_store(&mut generator);
         for _ in 0..20 {
             let given = list::Given::for_store(&mut generator, &store);
@@ -93,7 +93,7 @@ fn any_damaged_store() {
         tally.count(call, compare(&store, call).number);
     }
     println!("{tally}");
-    for call in ["Make", "Add", "Remove", "Seal", "Open", "Report"] {
+    for call in ["Make", "Add", "Remove", "Seal", "Open", "Report", "Find"] {
         assert!(tally.answered(call, STORE_NOT_SOUND) > 200, "{call}");
     }
 }

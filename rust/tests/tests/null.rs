@@ -35,13 +35,19 @@ fn stores() {
             sframe_add_sending(null_mut(), 0, 1, 1, null(), 0),
             sframe_add_receiving(null_mut(), 0, 1, 1, null(), 0),
             sframe_remove(null_mut(), 0, 1),
+            sframe_remove_near(null_mut(), 0, 1, 0),
+            sframe_remove_near(null_mut(), 0, 1, usize::MAX),
         ]
     };
-    assert_eq!(numbers, [STORE_NOT_SOUND; 4]);
+    assert_eq!(numbers, [STORE_NOT_SOUND; 6]);
     let mut count = 1;
     // SAFETY: as above, and `count` is a local.
     let number = unsafe { sframe_report(null(), 0, 1, &mut count) };
     assert_eq!((number, count), (STORE_NOT_SOUND, 0));
+    let mut place = 1;
+    // SAFETY: as above, and `place` is a local.
+    let number = unsafe { sframe_find(null(), 0, 1, &mut place) };
+    assert_eq!((number, place), (STORE_NOT_SOUND, 0));
 
     let mut store = made(1);
     // SAFETY: the store is live and of that length; a length of 0 lends no byte.

@@ -7,7 +7,7 @@ use comparison::{
     Call, Key, ANY_KEY, COUNTER_AT, LAYOUT_AT, SPENT_AT, WINDOW_AT,
 };
 use reference::suites::{Suite, SUITES};
-use sframe::{Role, MAX_COUNTER, RECORD};
+use sframe::{Role, MAX_COUNTER, MAX_RECORDS, RECORD};
 
 /// The places of the records of [`sound`], by what they are.
 const SENDING: usize = 0;
@@ -45,16 +45,16 @@ fn sound(suite: Suite) -> Vec<u8> {
 }
 
 /// Every call that uses a store; each would be done on the sound store.
-fn calls<'a>(opened: &'a [u8]) -> [Call<'a>; 7] {
-    let add = |role| Call::Add {
+fn calls<'a>(opened: &'a [u8]) -> [Call<'a>; 8] {
+    let add = |role, kid| Call::Add {
         role,
         suite: 1,
-        kid: 500,
+        kid,
         base_key: &ANY_KEY,
     };
     [
-        add(Role::Sending),
-        add(Role::Receiving),
+        add(Role::Sending, 50),
+        add(Role::Receiving, 150),
         Call::Remove { kid: KIDS[0] },
         Call::Remove { kid: KIDS[1] },
         Call::Seal {
@@ -70,6 +70,7 @@ fn calls<'a>(opened: &'a [u8]) -> [Call<'a>; 7] {
             room: 7,
         },
         Call::Report { kid: KIDS[1] },
+        Call::Find { kid: KIDS[2] },
     ]
 }
 
@@ -122,7 +123,7 @@ fn the_sound_store_takes_every_call() {
 #[test]
 fn lengths() {
     let case = Case::each().next().unwrap();
-    let most = 64 * RECORD;
+    let most = MAX_RECORDS * RECORD;
     for length in (0..=2 * RECORD).chain(most - RECORD..=most + 2 * RECORD) {
         let right = length >= RECORD && length <= most && length % RECORD == 0;
         if right {
@@ -213,7 +214,7 @@ fn records_of_80_bytes() {
                 for (place, record) in all.chunks_exact_mut(OLD).enumerate().skip(first) {
                     record.copy_from_slice(&kinds[place % 3]);
                 }
-                let call = calls(&case.frame)[first % 7];
+                let call = calls(&case.frame)[first % 8];
                 for store in [one, all] {
                     assert_eq!(compare(&store, call).number, STORE_NOT_SOUND);
                 }
@@ -399,30 +400,97 @@ fn key_numbers_shared() {
                     case.unsound(place, 4, &kid.to_be_bytes());
                 }
             }
-            // Only the whole number counts, and empty records have none.
-            if place == RETIRED {
-                for kid in [0, KIDS[0] << 32 | KIDS[1], KIDS[0] | 1 << 63] {
-                    case.check(place, 4, &kid.to_be_bytes(), DONE);
-                }
-            }
         }
     }
 }
 
-/// Two records of one key number in a full store, at places near and far.
+/// Each record's key number lies above that of the record before and below that
+/// of the record behind.
 #[test]
-fn key_numbers_shared_in_a_full_store() {
-    let mut store = made(64);
-    for place in 0..64 {
-        let role = [Role::Sending, Role::Receiving][place as usize % 2];
-        store = with_key(&store, role, &Key::any(SUITES[place as usize % 5], place));
+fn key_numbers_out_of_order() {
+    for case in Case::each() {
+        let check = |place: usize, kid: u64| {
+            let above = place == 0 || KIDS[place - 1] < kid;
+            let below = place == 3 || kid < KIDS[place + 1];
+            let sound = above && below;
+            let mut store = case.store.clone();
+            store[place * RECORD + 4..][..8].copy_from_slice(&kid.to_be_bytes());
+            let number = compare(&store, Call::Find { kid }).number;
+            assert_eq!(number == DONE, sound, "{kid} at {place}");
+            assert!(sound || number == STORE_NOT_SOUND);
+        };
+        for place in HELD {
+            for kid in KIDS {
+                for beside in [kid - 1, kid, kid + 1] {
+                    check(place, beside);
+                }
+            }
+            // Only the whole number counts, and its first byte the most.
+            for kid in [0, 1, 99 << 32, 1 << 56, 1 << 63, u64::MAX - 1, u64::MAX] {
+                check(place, kid);
+            }
+        }
+        // The last may be any higher one, and every call is done.
+        for kid in [301, 401, 1 << 32, 1 << 63, u64::MAX] {
+            case.check(OPENED, 4, &u64::to_be_bytes(kid), DONE);
+        }
     }
-    for one in 0..64 {
-        for other in 0..64 {
-            let mut shared = store.clone();
-            shared[other * RECORD + 4..][..8].copy_from_slice(&(one as u64).to_be_bytes());
-            let number = compare(&shared, Call::Remove { kid: 7 }).number;
-            assert_eq!(number == STORE_NOT_SOUND, one != other);
+}
+
+/// Empty records stand behind the others.
+#[test]
+fn empty_records_before_others() {
+    for case in Case::each() {
+        let records: Vec<&[u8]> = case.store.chunks_exact(RECORD).collect();
+        for empty in 0..EMPTY {
+            let mut order = records.clone();
+            order.remove(EMPTY);
+            order.insert(empty, records[EMPTY]);
+            let store = order.concat();
+            for call in calls(&case.frame) {
+                assert_eq!(compare(&store, call).number, STORE_NOT_SOUND);
+            }
+            // In the place of a record it cuts those behind off.
+            let mut store = case.store.clone();
+            store[empty * RECORD..][..RECORD].fill(0);
+            let number = compare(&store, Call::Find { kid: 0 }).number;
+            let last = empty + 1 == EMPTY;
+            assert_eq!(number, if last { KID_UNKNOWN } else { STORE_NOT_SOUND });
+        }
+        // Each two records in each other's place.
+        for (one, other) in (0..EMPTY).flat_map(|i| (0..EMPTY).map(move |j| (i, j))) {
+            let mut order = records.clone();
+            order.swap(one, other);
+            let number = compare(&order.concat(), Call::Find { kid: KIDS[0] }).number;
+            assert_eq!(number == DONE, one == other);
+        }
+    }
+}
+
+/// One key number of a full store changed, at places near and far.
+#[test]
+fn order_in_a_full_store() {
+    const RECORDS: usize = 1_024;
+    let mut store = made(RECORDS);
+    for place in (0..RECORDS).rev() {
+        let role = [Role::Sending, Role::Receiving][place % 2];
+        let key = Key::any(SUITES[place % 5], 2 * place as u64 + 1);
+        store = with_key(&store, role, &key);
+    }
+    for place in [0, 1, 2, 511, 512, 1_000, 1_022, 1_023] {
+        let own = 2 * place as u64 + 1;
+        let around = (own.saturating_sub(4)..own + 5).chain([0, 1_024, 2_047, u64::MAX]);
+        for kid in around {
+            let above = place == 0 || own - 2 < kid;
+            let below = place == RECORDS - 1 || kid < own + 2;
+            let mut changed = store.clone();
+            changed[place * RECORD + 4..][..8].copy_from_slice(&kid.to_be_bytes());
+            let found = compare(&changed, Call::Find { kid });
+            let expected = match above && below {
+                true => (DONE, place),
+                false => (STORE_NOT_SOUND, 0),
+            };
+            assert_eq!((found.number, found.place), expected, "{kid} at {place}");
         }
     }
 }

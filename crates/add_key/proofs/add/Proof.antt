@@ -3,19 +3,17 @@ use mathlib.Core.Bool.{true, false}
 use mathlib.Core.List.{List}
 use Prim.Native.Nat.{ℕ}
 use native.Mathlib.Omega.{arith}
-use lib.ListN.{set}
 use borrow.Author.Needs.{needs}
 use Rattle.key_record.specs.Record.{KeyRecord}
 use Rattle.store.specs.Store.{encodeAll, records, sound}
 use Rattle.key_record.specs.Suites.{isSuite}
-use Rattle.store.specs.inner.Places.{Whole}
+use Rattle.store.specs.Table.{insert}
 use Rattle.store.specs.Sframe.{sframe}
-use Rattle.store.proofs.Places.{tested-whole, free-within}
 use Rattle.answers.proofs.Basics.{told-true}
 use Rattle.key_record.proofs.Suites.{suite-named, suite-unnamed}
 use Rattle.suites.proofs.Laws.{number-is}
 use Rattle.add_key.specs.Add.{barred}
-use Rattle.add_key.proofs.Addition.{add-unsound, add-suite, add-barred, add-short, add-long, add-held, add-full, add-done, added-told, free-empty}
+use Rattle.add_key.proofs.Addition.{add-unsound, add-suite, add-barred, add-short, add-long, add-held, add-full, add-done, add-room, added-told}
 use Rattle.add_key.proofs.add.Statement.{statement}
 use Rattle.add_key.proofs.add.Tie as tie
 
@@ -39,33 +37,6 @@ to-find-from-else2 c = c .before .before .before .before .before
 abbrev to-start-from-find : tie.After-find → tie.Start
 to-start-from-find c = c .before .before .before .before .before .before
 
-abbrev to-slice-known : tie.After-find → tie.After-slice-known
-to-slice-known c = c .before .before .before .before .before
-
-abbrev to-else4-from-enum-told3 : tie.After-enum-told3 → tie.Else4
-to-else4-from-enum-told3 c = c .before .before .before .before
-
-abbrev to-else4-from-find-free-arg : tie.After-find-free-arg → tie.Else4
-to-else4-from-find-free-arg c = c .before .before .before .before .before
-
-abbrev to-else4-from-enum-told2 : tie.After-enum-told2 → tie.Else4
-to-else4-from-enum-told2 c = c .before .before .before .before
-
-abbrev to-enum-told2-from-enum-told4 : tie.After-enum-told4 → tie.After-enum-told2
-to-enum-told2-from-enum-told4 c = c .before .before .before .before
-
-abbrev to-find-free : tie.After-fill-at-arg → tie.After-find-free
-to-find-free c = c .before .before .before .before
-
-abbrev to-else4-from-find-free : tie.After-find-free → tie.Else4
-to-else4-from-find-free c = c .before .before .before .before .before .before
-
-abbrev to-enum-told2-from-i : tie.After-i → tie.After-enum-told2
-to-enum-told2-from-i c = c .before .before .before .before
-
-abbrev to-i : tie.After-slice-known2 → tie.After-i
-to-i c = c .before .before .before .before .before
-
 -- ---- what is known once the suite is judged
 
 abbrev start-of : tie.Else2 → tie.Start
@@ -79,12 +50,6 @@ allowed-at c = sym (c .before .is-barred .ensures) ∙ c .if2 .left
 
 sound-at : (c : tie.Else2) → sound (start-of c .args .store .now) ≡ true
 sound-at c = let at-find = to-find-from-else2 c in told-true _ _ (at-find .before .before .is-sound .ensures) (at-find .before .if1 .left)
-
-whole-at : (c : tie.Else2) → Whole (start-of c .args .store .now)
-whole-at c =
-    let at-find = to-find-from-else2 c in
-    let at-slice-known = to-slice-known at-find in
-    tested-whole (at-slice-known .before .args .store .now) (λ j. omega (arith, at-slice-known .slice-known .given j)) _ (at-find .before .before .is-sound .ensures) (at-find .before .if1 .left)
 
 -- ----
 
@@ -119,47 +84,69 @@ returns-5 c =
     let a = to-start-from-find at-find .args in
     add-long sframe (a .store .now) (a .role) (a .kid .0) (a .suite) (a .base .now) _ (at-find .before .before .is-sound .ensures) (at-find .before .if1 .left) (known-at at-else2) (allowed-at at-else2) (c .before .if3 .left) (c .if4 .taken)
 
-find-requires-2 : tie.Need-find-requires-2
-find-requires-2 c κs = whole-at (c .before .before .before)
+-- ---- what is known once its place is judged
+
+abbrev to-rank-from-else5 : tie.Else5 → tie.After-rank
+to-rank-from-else5 c = c .before .before .before
+
+abbrev else4-of : tie.Else5 → tie.Else4
+else4-of c = to-rank-from-else5 c .before .before
+
+abbrev to-else6 : tie.After-slice-known2 → tie.Else6
+to-else6 c = c .before .before .before .before
+
+rank-requires : tie.Need-rank-requires
+rank-requires c κs = sound-at (c .before .before .before)
+
+stands-at-requires : tie.Need-stands-at-requires
+stands-at-requires c κs = sound-at (c .before .before .before .before .before)
 
 returns-6 : tie.Need-returns-6
 returns-6 c =
-    let at-else4 = to-else4-from-enum-told3 c in
+    let at-rank = c .before .before .before in
+    let at-else4 = at-rank .before .before in
     let at-else2 = at-else4 .before .before in
     let at-find = to-find-from-else2 at-else2 in
     let a = to-start-from-find at-find .args in
-    add-held sframe (a .store .now) (a .role) (a .kid .0) (a .suite) (a .base .now) _ (at-find .before .before .is-sound .ensures) (at-find .before .if1 .left) (known-at at-else2) (allowed-at at-else2) (at-else4 .before .if3 .left) (at-else4 .if4 .left) _ (c .before .before .find2 .ensures) _ (c .enum-told3 .given .1)
+    add-held sframe (a .store .now) (a .role) (a .kid .0) (a .suite) (a .base .now) _ (at-find .before .before .is-sound .ensures) (at-find .before .if1 .left) (known-at at-else2) (allowed-at at-else2) (at-else4 .before .if3 .left) (at-else4 .if4 .left) _ (at-rank .rank .ensures) _ (c .before .stands-at .ensures) (c .if5 .taken)
 
-find-free-requires : tie.Need-find-free-requires
-find-free-requires c κs = whole-at (to-else4-from-find-free-arg c .before .before)
+is-full-requires : tie.Need-is-full-requires
+is-full-requires c κs = sound-at (else4-of (c .before) .before .before)
 
 returns-7 : tie.Need-returns-7
 returns-7 c =
-    let at-enum-told2 = to-enum-told2-from-enum-told4 c in
-    let at-else4 = to-else4-from-enum-told2 at-enum-told2 in
+    let at-else5 = c .before .before .before in
+    let at-rank = to-rank-from-else5 at-else5 in
+    let at-else4 = else4-of at-else5 in
     let at-else2 = at-else4 .before .before in
     let at-find = to-find-from-else2 at-else2 in
     let a = to-start-from-find at-find .args in
-    add-full sframe (a .store .now) (a .role) (a .kid .0) (a .suite) (a .base .now) _ (at-find .before .before .is-sound .ensures) (at-find .before .if1 .left) (known-at at-else2) (allowed-at at-else2) (at-else4 .before .if3 .left) (at-else4 .if4 .left) _ (at-enum-told2 .before .before .find2 .ensures) (at-enum-told2 .enum-told2 .given .1) _ (c .before .before .find-free .ensures) (c .enum-told4 .given .1)
+    add-full sframe (a .store .now) (a .role) (a .kid .0) (a .suite) (a .base .now) _ (at-find .before .before .is-sound .ensures) (at-find .before .if1 .left) (known-at at-else2) (allowed-at at-else2) (at-else4 .before .if3 .left) (at-else4 .if4 .left) _ (at-rank .rank .ensures) _ (at-else5 .before .stands-at .ensures) (at-else5 .if5 .left) _ (c .before .is-full .ensures) (c .if6 .taken)
 
-fill-at-requires : tie.Need-fill-at-requires
-fill-at-requires c κs =
-    let at-find-free = to-find-free c in
-    let at-else4 = to-else4-from-find-free at-find-free in
-    (free-within _ _ _ (sound-at (at-else4 .before .before)) (at-find-free .find-free .ensures) (c .before .before .i .given .1), free-empty _ _ _ (at-find-free .find-free .ensures) (c .before .before .i .given .1), at-else4 .if4 .left)
+insert-at-requires : tie.Need-insert-at-requires
+insert-at-requires c κs =
+    let at-else6 = c .before in
+    let at-else5 = at-else6 .before .before .before in
+    let at-rank = to-rank-from-else5 at-else5 in
+    let at-else4 = else4-of at-else5 in
+    let at-else2 = at-else4 .before .before in
+    let at-find = to-find-from-else2 at-else2 in
+    let a = to-start-from-find at-find .args in
+    (add-room sframe (a .store .now) (a .role) (a .kid .0) (a .suite) (a .base .now) _ (at-find .before .before .is-sound .ensures) (at-find .before .if1 .left) (known-at at-else2) (allowed-at at-else2) (at-else4 .before .if3 .left) (at-else4 .if4 .left) _ (at-rank .rank .ensures) _ (at-else5 .before .stands-at .ensures) (at-else5 .if5 .left) _ (at-else6 .before .is-full .ensures) (at-else6 .if6 .left), at-else4 .if4 .left)
 
 returns-8 : tie.Need-returns-8
 returns-8 c =
-    let at-i = to-i c in
-    let at-enum-told2 = to-enum-told2-from-i at-i in
-    let at-else4 = to-else4-from-enum-told2 at-enum-told2 in
+    let at-else6 = to-else6 c in
+    let at-else5 = at-else6 .before .before .before in
+    let at-rank = to-rank-from-else5 at-else5 in
+    let at-else4 = else4-of at-else5 in
     let at-else2 = at-else4 .before .before in
     let at-find = to-find-from-else2 at-else2 in
     let a = to-start-from-find at-find .args in
     let suite = at-else2 .before .before .before .known .given in
     let n = number-is (a .suite) (suite .0 .0) (sym (at-find .find .ensures) ∙ suite .1) in
-    add-done sframe (a .store .now) (a .role) (a .kid .0) (a .suite) (a .base .now) _ (at-find .before .before .is-sound .ensures) (at-find .before .if1 .left) (known-at at-else2) (allowed-at at-else2) (at-else4 .before .if3 .left) (at-else4 .if4 .left) _ (at-enum-told2 .before .before .find2 .ensures) (at-enum-told2 .enum-told2 .given .1) _ (at-i .before .before .find-free .ensures) _ (at-i .i .given .1) _
-    (c .before .before .fill-at .ensures ∙ ap (λ (r : KeyRecord). encodeAll (set (records (a .store .now)) (at-i .i .given .0 .0) r)) (added-told (a .role) (suite .0 .0) (a .kid .0) (a .suite) (a .base .now) n))
+    add-done sframe (a .store .now) (a .role) (a .kid .0) (a .suite) (a .base .now) _ (at-find .before .before .is-sound .ensures) (at-find .before .if1 .left) (known-at at-else2) (allowed-at at-else2) (at-else4 .before .if3 .left) (at-else4 .if4 .left) _ (at-rank .rank .ensures) _ (at-else5 .before .stands-at .ensures) (at-else5 .if5 .left) _ (at-else6 .before .is-full .ensures) (at-else6 .if6 .left) _
+    (c .before .before .insert-at .ensures ∙ ap (λ (r : KeyRecord). encodeAll (insert r (records (a .store .now)))) (added-told (a .role) (suite .0 .0) (a .kid .0) (a .suite) (a .base .now) n))
 
 pub add-spec : {M : Type 1} → statement M
 add-spec =
@@ -180,16 +167,13 @@ add-spec =
     returns-4
     (λ c. search needs)
     returns-5
-    find-requires-2
-    (λ c. search needs)
-    (λ c. search needs)
+    rank-requires
+    stands-at-requires
     (λ c. search needs)
     returns-6
-    find-free-requires
-    (λ c. search needs)
-    (λ c. search needs)
+    is-full-requires
     (λ c. search needs)
     returns-7
-    fill-at-requires
+    insert-at-requires
     (λ c. search needs)
     returns-8)

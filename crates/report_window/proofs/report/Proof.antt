@@ -4,7 +4,7 @@ use native.Mathlib.Omega.{arith}
 use borrow.Author.Needs.{needs}
 use Rattle.answers.proofs.Basics.{told-true}
 use Rattle.store.specs.Store.{sound}
-use Rattle.store.proofs.Places.{tested-sound, tested-whole, found-within}
+use Rattle.store.proofs.Places.{tested-sound, found-within}
 use Rattle.report_window.proofs.Steps.{report-unsound, report-missing, report-refused, report-counted}
 use Rattle.report_window.proofs.report.Statement.{statement}
 use Rattle.report_window.proofs.report.Tie as tie
@@ -34,7 +34,7 @@ returns c =
     let q = report-unsound (at-start .args .store .now) _ _ (c .before .before .is-sound .ensures) (c .before .if1 .taken) in (c .refused .ensures .0 ∙ q .0, c .refused .ensures .1 ∙ q .1)
 
 find-requires : tie.Need-find-requires
-find-requires c κs = tested-whole (to-start c .args .store .now) (λ j. omega (arith, c .before .before .shared-slice-known .given j)) _ (c .before .is-sound .ensures) (c .if1 .left)
+find-requires c κs = tested-sound (to-start c .args .store .now) (λ j. omega (arith, c .before .before .shared-slice-known .given j)) _ (c .before .is-sound .ensures) (c .if1 .left)
 
 returns-2 : tie.Need-returns-2
 returns-2 c =

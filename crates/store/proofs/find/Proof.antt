@@ -1,62 +1,27 @@
-use mathlib.Core.Path.{_≡_, refl, ap}
-use Prim.Native.Nat.{_-_, _/_, _%_, _≤_}
-use native.Mathlib.Omega.{arith}
-use lib.ListN.{length, drop}
 use borrow.Author.Needs.{needs}
-use Rattle.store.proofs.Walk.{find-here, find-go, find-end, records-start}
-use Rattle.store.specs.Store.{decodeAll, records}
-use Rattle.store.specs.Table.{get}
-use Rattle.key_record.specs.Layout.{recordSize}
+use Rattle.store.proofs.Places.{place-found, place-nowhere}
 use Rattle.store.proofs.find.Statement.{statement}
 use Rattle.store.proofs.find.Tie as tie
 
-abbrev Inv-loop : tie.InvT-loop
-Inv-loop store kid at₀ at = (at ≤ length store) × (at % recordSize ≡ 0) × (get (kid .0) (decodeAll (length store / recordSize) store) ≡ get (kid .0) (decodeAll ((length store - at) / recordSize) (drop at store)))
-
-abbrev μ-loop : tie.MeasureT-loop
-μ-loop store kid at₀ at = length store - at
-
 -- ---- points of the program, each reached from a later one
 
-abbrev to-loop-head-from-then1 : tie.Then1 Inv-loop μ-loop → tie.At-loop Inv-loop μ-loop
-to-loop-head-from-then1 c = c .before .before .before .before
+abbrev to-start-from-then1 : tie.Then1 → tie.Start
+to-start-from-then1 c = c .before .before .before .before
 
-abbrev to-loop-head-from-else1 : tie.Else1 Inv-loop μ-loop → tie.At-loop Inv-loop μ-loop
-to-loop-head-from-else1 c = c .before .before .before .before
+abbrev to-start-from-else1 : tie.Else1 → tie.Start
+to-start-from-else1 c = c .before .before .before .before
 
 -- ----
 
-loop-holds : tie.Need-loop-holds Inv-loop μ-loop
-loop-holds c = (omega arith, refl, ap (get _) (records-start (c .before .args .store .now)))
-
-returns : tie.Need-returns Inv-loop μ-loop
-unfolding records
+returns : tie.Need-returns
 returns c =
-    let at-loop-head = to-loop-head-from-then1 c in
-    find-here (at-loop-head .before .before .args .store .now) (at-loop-head .loop .at) _ (at-loop-head .before .before .pre) (c .before .before .before .loop-test .taken) (at-loop-head .loop .inv .1) refl _ _ (c .before .holds-kid .ensures) (c .if1 .taken) (at-loop-head .loop .inv .2)
+    let p = to-start-from-then1 c in
+    place-found (p .args .store .now) (p .args .kid .0) _ _ (p .pre) (c .before .stands-at .ensures) (c .if1 .taken)
 
-loop-again : tie.Need-loop-again Inv-loop μ-loop
-loop-again c =
-    let at-loop-head = to-loop-head-from-else1 c in
-    (omega arith, omega arith, find-go (at-loop-head .before .before .args .store .now) (at-loop-head .loop .at) _ (at-loop-head .before .before .pre) (c .before .before .before .loop-test .taken) (at-loop-head .loop .inv .1) refl _ _ (c .before .holds-kid .ensures) (c .if1 .left) (at-loop-head .loop .inv .2))
-
-returns-2 : tie.Need-returns-2 Inv-loop μ-loop
-unfolding records
-returns-2 c = find-end (c .before .before .before .args .store .now) (c .before .loop .at) (omega arith) _ (c .before .loop .inv .2)
+returns-2 : tie.Need-returns-2
+returns-2 c =
+    let p = to-start-from-else1 c in
+    place-nowhere (p .args .store .now) (p .args .kid .0) _ _ (p .pre) (c .before .before .rank .ensures) (c .before .stands-at .ensures) (c .if1 .left)
 
 pub find-spec : {M : Type 1} → statement M
-find-spec =
-    tie.close
-    (tie.spec
-    Inv-loop
-    μ-loop
-    loop-holds
-    (λ c. search needs)
-    (λ c. search needs)
-    (λ c. search needs)
-    (λ c. search needs)
-    (λ c κs. search needs)
-    returns
-    (λ c. search needs)
-    loop-again
-    returns-2)
+find-spec = tie.close (tie.spec (λ c κs. search needs) (λ c κs. search needs) returns returns-2)

@@ -1,51 +1,16 @@
 use borrow.Author.Needs.{needs}
-use Rattle.store.specs.Store.{records}
-use Rattle.store.proofs.Walk.{sound-length, sound-whole, sound-rows, sound-kids}
+use Rattle.store.proofs.Walk.{sound-length, sound-whole, sound-rows}
 use Rattle.store.proofs.is_sound.Statement.{statement}
 use Rattle.store.proofs.is_sound.Tie as tie
-
--- ---- points of the program, each reached from a later one
-
-abbrev to-start-from-then2 : tie.Then2 → tie.Start
-to-start-from-then2 c = c .before .before .before .before .before
-
-abbrev to-start-from-else2 : tie.Else2 → tie.Start
-to-start-from-else2 c = c .before .before .before .before .before
-
-abbrev to-length-right : tie.After-kids-apart → tie.After-length-right
-to-length-right c = c .before .before .before .before
-
--- ----
 
 returns : tie.Need-returns
 returns c = sound-length (c .before .before .before .args .store .now) _ (c .before .length-right .ensures) (c .if1 .taken)
 
-rows-obey-requires : tie.Need-rows-obey-requires
-rows-obey-requires c κs = sound-whole (c .before .before .before .args .store .now) _ (c .before .length-right .ensures) (c .if1 .left)
+rows-sound-requires : tie.Need-rows-sound-requires
+rows-sound-requires c κs = sound-whole (c .before .before .before .args .store .now) _ (c .before .length-right .ensures) (c .if1 .left)
 
 returns-2 : tie.Need-returns-2
-returns-2 c =
-    let at-start = to-start-from-then2 c in
-    sound-rows (at-start .args .store .now) _ (c .before .before .before .length-right .ensures) (c .before .before .if1 .left) _ (c .before .rows-obey .ensures) (c .if2 .taken)
-
-kids-apart-requires : tie.Need-kids-apart-requires
-kids-apart-requires c κs =
-    let at-start = to-start-from-else2 c in
-    sound-whole (at-start .args .store .now) _ (c .before .before .before .length-right .ensures) (c .before .before .if1 .left)
-
-returns-3 : tie.Need-returns-3
-unfolding records
-returns-3 c =
-    let at-length-right = to-length-right c in
-    sound-kids (at-length-right .before .before .args .store .now) _ (at-length-right .length-right .ensures) (c .before .before .before .if1 .left) _ _ (c .before .before .rows-obey .ensures) (c .before .if2 .left) (c .kids-apart .ensures)
+returns-2 c = sound-rows _ _ (c .before .before .length-right .ensures) (c .before .if1 .left) _ (c .rows-sound .ensures)
 
 pub is-sound-spec : {M : Type 1} → statement M
-is-sound-spec =
-    tie.close
-    (tie.spec
-    (λ c κs. search needs)
-    returns
-    rows-obey-requires
-    returns-2
-    kids-apart-requires
-    returns-3)
+is-sound-spec = tie.close (tie.spec (λ c κs. search needs) returns rows-sound-requires returns-2)

@@ -46,6 +46,30 @@ pub fn remove(store: &mut [u8], kid: u64) -> u32 {
     unsafe { ffi::sframe_remove(store.as_mut_ptr(), store.len(), kid) }
 }
 
+/// Removes a key, whose record is looked for at `place` first.
+pub fn remove_near(store: &mut [u8], kid: u64, place: usize) -> u32 {
+    // SAFETY: as in `remove`.
+    unsafe { ffi::sframe_remove_near(store.as_mut_ptr(), store.len(), kid, place) }
+}
+
+/// What a search for a record answers.
+#[derive(Clone, Copy, Debug, PartialEq, Eq)]
+pub struct Found {
+    /// 0, or the refusal's number.
+    pub number: u32,
+    /// The place of the record, from 0; 0 when refused.
+    pub place: usize,
+}
+
+/// The place of the record of a key number.
+pub fn find(store: &[u8], kid: u64) -> Found {
+    let mut place = UNSET as usize;
+    // SAFETY: `store` is a live slice of that length that is only read, and
+    // `place` is a local of its own.
+    let number = unsafe { ffi::sframe_find(store.as_ptr(), store.len(), kid, &mut place) };
+    Found { number, place }
+}
+
 /// Seals `plaintext` into a frame at the front of `out`.
 pub fn seal(
     store: &mut [u8],
@@ -103,6 +127,38 @@ pub fn seal_at(
     Written { number, length }
 }
 
+/// Seals `plaintext` into a frame at `offset` in `out`; the record is looked for
+/// at `place` first.
+pub fn seal_near(
+    store: &mut [u8],
+    kid: u64,
+    place: usize,
+    metadata: &[u8],
+    plaintext: &[u8],
+    out: &mut [u8],
+    offset: usize,
+) -> Written {
+    let mut length = UNSET as usize;
+    // SAFETY: as in `seal`.
+    let number = unsafe {
+        ffi::sframe_seal_near(
+            store.as_mut_ptr(),
+            store.len(),
+            kid,
+            place,
+            metadata.as_ptr(),
+            metadata.len(),
+            plaintext.as_ptr(),
+            plaintext.len(),
+            out.as_mut_ptr(),
+            out.len(),
+            offset,
+            &mut length,
+        )
+    };
+    Written { number, length }
+}
+
 /// Opens `frame` to its plaintext at the front of `out`.
 pub fn open(store: &mut [u8], frame: &[u8], metadata: &[u8], out: &mut [u8]) -> Written {
     let mut length = UNSET as usize;
@@ -111,6 +167,34 @@ pub fn open(store: &mut [u8], frame: &[u8], metadata: &[u8], out: &mut [u8]) -> 
         ffi::sframe_open(
             store.as_mut_ptr(),
             store.len(),
+            frame.as_ptr(),
+            frame.len(),
+            metadata.as_ptr(),
+            metadata.len(),
+            out.as_mut_ptr(),
+            out.len(),
+            &mut length,
+        )
+    };
+    Written { number, length }
+}
+
+/// Opens `frame` to its plaintext at the front of `out`; the record is looked for
+/// at `place` first.
+pub fn open_near(
+    store: &mut [u8],
+    place: usize,
+    frame: &[u8],
+    metadata: &[u8],
+    out: &mut [u8],
+) -> Written {
+    let mut length = UNSET as usize;
+    // SAFETY: as in `seal`.
+    let number = unsafe {
+        ffi::sframe_open_near(
+            store.as_mut_ptr(),
+            store.len(),
+            place,
             frame.as_ptr(),
             frame.len(),
             metadata.as_ptr(),

@@ -41,7 +41,11 @@ fn store_not_sound() {
     let mut old = damaged[..80].to_vec();
     old[2..4].fill(0);
     folder.write("old", &[old, vec![0; 400]].concat());
-    for store in ["damaged", "long", "empty", "old"] {
+    // An empty record before the key.
+    let mut moved = folder.read("ward");
+    moved.rotate_right(96);
+    folder.write("moved", &moved);
+    for store in ["damaged", "long", "empty", "old", "moved"] {
         // Makes the lock's file, which stays.
         folder.run(&format!("remove {store} --kid 200"));
         for line in [
@@ -62,9 +66,9 @@ fn store_not_sound() {
 fn number_of_keys() {
     let folder = folder("refused-keys");
     let files = folder.files();
-    for keys in [0, 65, u64::MAX] {
+    for keys in [0, 1_025, u64::MAX] {
         let message = folder.fails(&format!("make other --keys {keys}"), 1);
-        let expected = "sframe: refused (1): a store has room for 1 to 64 keys\n";
+        let expected = "sframe: refused (1): a store has room for 1 to 1024 keys\n";
         assert_eq!(message, expected);
     }
     assert_eq!(folder.files(), files);

@@ -179,9 +179,31 @@ fn list_shows_everything_but_keys() {
     assert_eq!(report, b"2 of the last 64 counters opened\n");
 
     let empty = Folder::new("list-empty");
-    empty.done("make store --keys 64");
+    empty.done("make store --keys 1024");
     let list = String::from_utf8(empty.done("list store")).unwrap();
-    assert!(list.ends_with("0 of 64 records in use\n"), "{list}");
+    assert!(list.ends_with("0 of 1024 records in use\n"), "{list}");
+}
+
+/// Keys are listed by rising number, in whatever order they were added.
+#[test]
+fn keys_by_rising_number() {
+    let folder = Folder::new("order");
+    folder.write("key", &[7; 16]);
+    folder.done("make store --keys 4");
+    for kid in ["200", "0xffffffffffffffff", "0", "56"] {
+        folder.done(&format!(
+            "add store --receiving --kid {kid} --suite 4 --key key"
+        ));
+    }
+    let kids = || {
+        let list = String::from_utf8(folder.done("list store")).unwrap();
+        let rows = list.lines().filter(|line| line.starts_with("receiving"));
+        let kid = |row: &str| row.split_whitespace().nth(3).unwrap().to_string();
+        rows.map(kid).collect::<Vec<_>>().join(" ")
+    };
+    assert_eq!(kids(), "0 56 200 18446744073709551615");
+    folder.done("remove store --kid 56");
+    assert_eq!(kids(), "0 200 18446744073709551615");
 }
 
 #[test]

@@ -35,6 +35,9 @@ pub enum Given {
     Report {
         kid: u64,
     },
+    Find {
+        kid: u64,
+    },
 }
 
 impl Given {
@@ -75,6 +78,7 @@ impl Given {
                 room: *room,
             },
             Given::Report { kid } => Call::Report { kid: *kid },
+            Given::Find { kid } => Call::Find { kid: *kid },
         }
     }
 
@@ -169,16 +173,18 @@ impl Given {
             .collect();
         if records.is_empty() || generator.one_in(12) {
             let kid = generator.any_width();
-            return match generator.up_to(4) {
+            return match generator.up_to(5) {
                 0 => Given::Remove { kid },
                 1 => Given::seal(generator, kid),
                 2 => Given::open(generator, write_header(kid, 0), vec![]),
                 3 => Given::Report { kid },
+                4 => Given::Find { kid },
                 _ => Given::add(generator, kid),
             };
         }
         let record = generator.pick(&records).clone();
-        match generator.up_to(10) {
+        match generator.up_to(11) {
+            11 => Given::Find { kid: record.kid },
             0 => Given::add(generator, record.kid),
             1 => Given::Remove { kid: record.kid },
             2 => Given::Report { kid: record.kid },

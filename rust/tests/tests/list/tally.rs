@@ -6,7 +6,7 @@ use std::collections::BTreeMap;
 use std::fmt;
 
 /// What each call can answer.
-const ANSWERS: [(&str, &[u32]); 6] = [
+const ANSWERS: [(&str, &[u32]); 7] = [
     ("Make", &[DONE]),
     (
         "Add",
@@ -49,6 +49,7 @@ const ANSWERS: [(&str, &[u32]); 6] = [
         ],
     ),
     ("Report", &[DONE, STORE_NOT_SOUND, KID_UNKNOWN, WRONG_ROLE]),
+    ("Find", &[DONE, STORE_NOT_SOUND, KID_UNKNOWN]),
 ];
 
 /// Counts of calls by name and number.
@@ -64,6 +65,7 @@ impl Tally {
             Call::Seal { .. } => "Seal",
             Call::Open { .. } => "Open",
             Call::Report { .. } => "Report",
+            Call::Find { .. } => "Find",
         };
         *self.0.entry((name, number)).or_default() += 1;
     }

@@ -118,7 +118,7 @@ pub fn step(generator: &mut Generator, tally: &mut Tally, us: &mut Terminal, pee
             }
         }
         Call::Open { frame, .. } => us.note_opened(frame),
-        Call::Make | Call::Remove { .. } | Call::Report { .. } => (),
+        Call::Make | Call::Remove { .. } | Call::Report { .. } | Call::Find { .. } => (),
     }
 }
 
@@ -159,11 +159,12 @@ impl Terminal {
             0..20 => Given::add(generator, kid),
             20..22 => Given::Remove { kid },
             22..26 => Given::Report { kid },
-            26..40 if !self.kept.is_empty() => {
+            26..29 => Given::Find { kid },
+            29..42 if !self.kept.is_empty() => {
                 let (frame, metadata) = generator.pick(&self.kept).clone();
                 Given::open(generator, frame, metadata)
             }
-            26..100 => match self.waiting.pop() {
+            29..100 => match self.waiting.pop() {
                 Some((frame, metadata)) => Given::open(generator, frame, metadata),
                 None => Given::seal(generator, sending),
             },

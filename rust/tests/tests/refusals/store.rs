@@ -1,4 +1,4 @@
-//! Add, Remove, Seal and the report.
+//! Add, Remove, Find, Seal and the report.
 
 use super::held::{make_unsound, store, Held, HELD, KID};
 use super::seen::Seen;
@@ -18,6 +18,7 @@ const ADD: &[u32] = &[
 ];
 const REMOVE: &[u32] = &[STORE_NOT_SOUND, KID_UNKNOWN, WRONG_ROLE];
 const REPORT: &[u32] = REMOVE;
+const FIND: &[u32] = &[STORE_NOT_SOUND, KID_UNKNOWN];
 const SEAL: &[u32] = &[
     STORE_NOT_SOUND,
     KID_UNKNOWN,
@@ -71,9 +72,11 @@ fn add() {
     seen.finish(&[(NO_SUCH_SUITE, SENDING_BARRED)]);
 }
 
-#[test]
-fn remove() {
-    let mut seen = Seen::new(REMOVE);
+/// A call that is given the key number alone, with the ways to hold it that its
+/// role does not allow.
+#[track_caller]
+fn by_key_number(order: &'static [u32], call: Call, wrong: &[Held]) -> Seen {
+    let mut seen = Seen::new(order);
     for [suite, held, unsound] in combinations([5, 6, 2]) {
         let (held, unsound) = (HELD[held], unsound == 1);
         let mut store = store(SUITES[suite], held, 2);
@@ -83,33 +86,31 @@ fn remove() {
         let causes = [
             (STORE_NOT_SOUND, unsound),
             (KID_UNKNOWN, held == Held::Not),
-            (
-                WRONG_ROLE,
-                matches!(held, Held::Retired | Held::RetiredSpent),
-            ),
+            (WRONG_ROLE, wrong.contains(&held)),
         ];
-        seen.check(&store, Call::Remove { kid: KID }, causes);
+        seen.check(&store, call, causes);
     }
+    seen
+}
+
+#[test]
+fn remove() {
+    let wrong = [Held::Retired, Held::RetiredSpent];
+    let seen = by_key_number(REMOVE, Call::Remove { kid: KID }, &wrong);
     seen.finish(&[(KID_UNKNOWN, WRONG_ROLE)]);
 }
 
 #[test]
 fn report() {
-    let mut seen = Seen::new(REPORT);
-    for [suite, held, unsound] in combinations([5, 6, 2]) {
-        let (held, unsound) = (HELD[held], unsound == 1);
-        let mut store = store(SUITES[suite], held, 2);
-        if unsound {
-            make_unsound(&mut store);
-        }
-        let causes = [
-            (STORE_NOT_SOUND, unsound),
-            (KID_UNKNOWN, held == Held::Not),
-            (WRONG_ROLE, !matches!(held, Held::Not | Held::Receiving)),
-        ];
-        seen.check(&store, Call::Report { kid: KID }, causes);
-    }
+    let receiving = |held: &Held| matches!(held, Held::Not | Held::Receiving);
+    let wrong: Vec<Held> = HELD.into_iter().filter(|held| !receiving(held)).collect();
+    let seen = by_key_number(REPORT, Call::Report { kid: KID }, &wrong);
     seen.finish(&[(KID_UNKNOWN, WRONG_ROLE)]);
+}
+
+#[test]
+fn find() {
+    by_key_number(FIND, Call::Find { kid: KID }, &[]).finish(&[]);
 }
 
 #[test]

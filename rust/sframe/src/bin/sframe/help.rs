@@ -9,7 +9,7 @@ Each frame that is sealed uses up one counter of its key, and each frame opens
 once.
 
   sframe make STORE --keys N
-      Makes a new store with room for N keys, 1 to 64. The file must not exist.
+      Makes a new store with room for 1 to 1024 keys. The file must not exist.
 
   sframe add STORE --sending|--receiving --kid K --suite S --key FILE [--hex]
       Adds a key. FILE holds the base key, 16 to 64 bytes that both ends share;
@@ -23,9 +23,9 @@ once.
       store, so that no counter is ever used twice.
 
   sframe list STORE
-      Shows role, suite, number and next counter of each key, and of a receiving
-      key the highest counter that it has opened and its window: bit i, in hex,
-      is the counter i below that one. Never the key.
+      Shows role, suite, number and next counter of each key, by rising number,
+      and of a receiving key the highest counter that it has opened and its
+      window: bit i, in hex, is the counter i below that one. Never the key.
 
   sframe seal STORE --kid K [--in FILE] [--out FILE] [--metadata FILE]
               [--offset N] [--hex] [--log LOG]
@@ -74,12 +74,12 @@ Frames are no longer safe once a key has used a counter twice. That happens with
 a copy of a store, with a store put back as it was before, say from a backup,
 and with a new store that gets the same keys for sending: never seal with these.
 For receiving, such a store opens frames again that were opened before. A store
-of an earlier version, whose records have 80 bytes, is refused (1): make a new
-one, and give it new keys.
+of an earlier version, whose records have 80 bytes or do not stand by rising key
+number, is refused (1): make a new one, and give it new keys.
 
 Exit status: 0 done; 1 to 15, 17, 20 and 21 refused, with these causes:
    1  the store is not sound, or not      9  plaintext above 32768 bytes, or
-      1 to 64 keys in making                 metadata above 1024
+      1 to 1024 keys in making               metadata above 1024
    2  no such suite                      10  header cut short
    3  base key not of 16 to 64 bytes     11  frame too short for a tag
    4  key number already in the store    12  room too short: --offset too large
