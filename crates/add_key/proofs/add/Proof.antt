@@ -51,6 +51,9 @@ allowed-at c = sym (c .before .is-barred .ensures) ∙ c .if2 .left
 sound-at : (c : tie.Else2) → sound (start-of c .args .store .now) ≡ true
 sound-at c = let at-find = to-find-from-else2 c in told-true _ _ (at-find .before .before .is-sound .ensures) (at-find .before .if1 .left)
 
+abbrev to-else2 : tie.After-stands-at-arg → tie.Else2
+to-else2 c = c .before .before .before .before .before
+
 -- ----
 
 returns : tie.Need-returns
@@ -99,7 +102,7 @@ rank-requires : tie.Need-rank-requires
 rank-requires c κs = sound-at (c .before .before .before)
 
 stands-at-requires : tie.Need-stands-at-requires
-stands-at-requires c κs = sound-at (c .before .before .before .before .before)
+stands-at-requires c κs = sound-at (to-else2 c)
 
 returns-6 : tie.Need-returns-6
 returns-6 c =

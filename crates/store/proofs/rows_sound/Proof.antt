@@ -32,6 +32,12 @@ to-loop-head-from-then1 c = c .before .before .before .before .before
 abbrev to-loop-head-from-else1 : tie.Else1 Inv-loop μ-loop → tie.At-loop Inv-loop μ-loop
 to-loop-head-from-else1 c = c .before .before .before .before .before
 
+abbrev to-loop-body : tie.Then1 Inv-loop μ-loop → tie.In-loop Inv-loop μ-loop
+to-loop-body c = c .before .before .before .before
+
+abbrev to-loop-body-from-else1 : tie.Else1 Inv-loop μ-loop → tie.In-loop Inv-loop μ-loop
+to-loop-body-from-else1 c = c .before .before .before .before
+
 -- ----
 
 loop-holds : tie.Need-loop-holds Inv-loop μ-loop
@@ -45,17 +51,19 @@ row-sound-requires c κs =
 
 returns : tie.Need-returns Inv-loop μ-loop
 returns c =
+    let at-loop-body = to-loop-body c in
     let at-loop-head = to-loop-head-from-then1 c in
-    pass-stop (at-loop-head .before .before .args .store .now) (at-loop-head .loop .before) (at-loop-head .loop .at) _ (at-loop-head .before .before .pre) (c .before .before .before .before .loop-test .taken) (at-loop-head .loop .inv .1) refl _ (c .before .row-sound .ensures) (at-loop-head .loop .inv .4) (c .if1 .taken)
+    pass-stop (at-loop-head .before .before .args .store .now) (at-loop-head .loop .before) (at-loop-head .loop .at) _ (at-loop-head .before .before .pre) (at-loop-body .loop-test .taken) (at-loop-head .loop .inv .1) refl _ (c .before .row-sound .ensures) (at-loop-head .loop .inv .4) (c .if1 .taken)
 
 loop-again : tie.Need-loop-again Inv-loop μ-loop
 loop-again c =
+    let at-loop-body = to-loop-body-from-else1 c in
     let at-loop-head = to-loop-head-from-else1 c in (
       omega arith,
       omega arith,
       omega arith,
       (λ h. refl),
-      pass-go (at-loop-head .before .before .args .store .now) (at-loop-head .loop .before) (at-loop-head .loop .at) _ (at-loop-head .before .before .pre) (c .before .before .before .before .loop-test .taken) (at-loop-head .loop .inv .1) refl _ (c .before .row-sound .ensures) (at-loop-head .loop .inv .4) (c .if1 .left),
+      pass-go (at-loop-head .before .before .args .store .now) (at-loop-head .loop .before) (at-loop-head .loop .at) _ (at-loop-head .before .before .pre) (at-loop-body .loop-test .taken) (at-loop-head .loop .inv .1) refl _ (c .before .row-sound .ensures) (at-loop-head .loop .inv .4) (c .if1 .left),
     )
 
 returns-2 : tie.Need-returns-2 Inv-loop μ-loop
