@@ -24,8 +24,8 @@
  * What the caller owes, since no callee can check it and no proof covers it:
  *   - each pointer is valid for as many bytes as the length beside it says; a byte string whose length
  *     is 0 may be given as a null pointer;
- *   - the pointers for single numbers (kid, ctr, length, count, place) are valid, aligned and never
- *     null;
+ *   - the pointers for single numbers (kid, ctr, length, count, place, context, index, epoch) are valid,
+ *     aligned and never null;
  *   - whatever a call writes to (store, room, single numbers) overlaps nothing else of the call;
  *   - one caller at a time: while a call uses a store, nobody else writes to that store, and nobody
  *     reads it while a call changes it. Opening changes it too, so no two openings share a store;
@@ -94,7 +94,11 @@ enum sframe_answer {
      * bits. */
     SFRAME_RATCHET_KID_INVALID = 20,
     /* More than SFRAME_MAX_STEPS steps. */
-    SFRAME_TOO_MANY_STEPS = 21
+    SFRAME_TOO_MANY_STEPS = 21,
+    /* The sender's index, or the bits of the epoch, do not fit their width. */
+    SFRAME_GROUP_PART_TOO_LARGE = 22,
+    /* The widths are above 64 together, or the key number does not fit in 64 bits. */
+    SFRAME_GROUP_KID_TOO_LONG = 23
 };
 
 /* The cipher suites, by their registered numbers. */
@@ -174,6 +178,21 @@ uint32_t sframe_remove(uint8_t *store, size_t store_len, uint64_t kid);
  * Removes a key as sframe_remove does, and looks for its record at place first.
  */
 uint32_t sframe_remove_near(uint8_t *store, size_t store_len, uint64_t kid, size_t place);
+
+/*
+ * Changes the epoch of a group whose key numbers are made by sframe_group_kid: removes exactly the receiving
+ * keys whose key number has epoch_bits as its low epoch_width bits, each as sframe_remove does. RFC 9605
+ * asks for it at the latest when a new epoch with the same low bits begins.
+ *
+ * Sending keys and retired records stay as they are. When the low bits of the epoch come round again, the key
+ * number that a sender had with them is still taken (SFRAME_KID_HELD): it needs another context by then.
+ *
+ * With a width of 0 every receiving key goes; with a width of 64 that of one key number.
+ *
+ * SFRAME_DONE, also where there are none; or the first of SFRAME_STORE_NOT_SOUND, SFRAME_GROUP_KID_TOO_LONG
+ * (epoch_width is above 64), SFRAME_GROUP_PART_TOO_LARGE (epoch_bits is 2^epoch_width or more) that holds.
+ */
+uint32_t sframe_change_epoch(uint8_t *store, size_t store_len, uint64_t epoch_width, uint64_t epoch_bits);
 
 /*
  * Tells where the record of a key number stands, be it a retired one. The store is not changed.
@@ -298,6 +317,28 @@ uint32_t sframe_ratchet(uint64_t suite, const uint8_t *base_key, size_t base_key
  * *kid is 0.
  */
 uint32_t sframe_ratchet_kid(uint64_t generation, uint64_t step, uint64_t bits, uint64_t *kid);
+
+/*
+ * The key number of a member of an MLS group (RFC 9605, section 5.2): its low epoch_width bits are those of
+ * the epoch, the index_width bits above them are the sender's index, and the others are a context of the
+ * sender's choice. Context 0 gives the shortest headers.
+ *
+ * SFRAME_DONE: *kid is context * 2^(index_width + epoch_width) + index * 2^epoch_width + epoch % 2^epoch_width.
+ * Else the first that holds: SFRAME_GROUP_KID_TOO_LONG, where the widths are above 64 together;
+ * SFRAME_GROUP_PART_TOO_LARGE, where index is 2^index_width or more; SFRAME_GROUP_KID_TOO_LONG, where that
+ * number is 2^64 or more. *kid is 0 then.
+ */
+uint32_t sframe_group_kid(uint64_t context, uint64_t index, uint64_t epoch, uint64_t index_width,
+                          uint64_t epoch_width, uint64_t *kid);
+
+/*
+ * The parts of such a key number. What sframe_group_kid packed comes out again, of the epoch its low bits.
+ *
+ * SFRAME_DONE: *context, *index and *epoch are the three parts.
+ * SFRAME_GROUP_KID_TOO_LONG: the widths are above 64 together; the three are 0.
+ */
+uint32_t sframe_group_parts(uint64_t kid, uint64_t index_width, uint64_t epoch_width, uint64_t *context,
+                            uint64_t *index, uint64_t *epoch);
 
 #ifdef __cplusplus
 }

@@ -60,6 +60,13 @@ ratchetKidInvalid = 20
 abbrev pub stepsTooMany : ℕ
 stepsTooMany = 21
 
+-- of a group's KID: a part that its bits do not hold, and widths or a KID past 64 bits
+abbrev pub groupPartTooLarge : ℕ
+groupPartTooLarge = 22
+
+abbrev pub groupKidTooLong : ℕ
+groupKidTooLong = 23
+
 -- A cause of refusal: its number, and whether it applies.
 pub record Cause : Type 0 where
   pub number : ℕ

@@ -41,6 +41,10 @@ pub const RATCHET_KID_INVALID: u32 = 20;
 
 pub const STEPS_TOO_MANY: u32 = 21;
 
+pub const GROUP_PART_TOO_LARGE: u32 = 22;
+
+pub const GROUP_KID_TOO_LONG: u32 = 23;
+
 // The shortest base key, and the longest.
 pub const MIN_BASE_KEY: usize = 16;
 

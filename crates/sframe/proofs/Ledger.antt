@@ -1,6 +1,6 @@
 -- What every list of calls keeps true of the store and of the events so far. Assumes nothing.
 use mathlib.Core.Path.{_≡_, refl, sym, _∙_, ap}
-use mathlib.Core.Bool.{Bool, true}
+use mathlib.Core.Bool.{Bool, true, false≢true}
 use mathlib.Core.List.{List, [], _∷_}
 use Prim.Native.Nat.{ℕ, _/_, _^_, _<_, _≤_}
 use native.Mathlib.Omega.{arith}
@@ -16,7 +16,7 @@ use Rattle.answers.specs.Answers.{Outcome}
 use Rattle.store.specs.Calls.{make, remove, find}
 use Rattle.add_key.specs.Add.{add, added as addedRecord}
 use Rattle.store.specs.Cipher.{Cipher}
-use Rattle.key_record.specs.Record.{ceiling, SendingKey, ReceivingKey, KeyRecord, empty, sending, receiving, retired, counterOf}
+use Rattle.key_record.specs.Record.{ceiling, SendingKey, ReceivingKey, KeyRecord, empty, sending, receiving, retired, isReceiving, counterOf}
 use Rattle.store.specs.Table.{get, put, insert, without}
 use Rattle.answers.proofs.Basics.{Two, yes′, no′, two, settled-store}
 use Rattle.store.proofs.CipherLaws.{Laws}
@@ -29,11 +29,13 @@ use Rattle.seal_frame.specs.Seal.{seal}
 use Rattle.open_frame.specs.Open.{opening}
 use Rattle.open_frame.proofs.Opened.{Opened, OpenStep, open-step}
 use Rattle.report_window.specs.Report.{report}
+use Rattle.change_epoch.specs.Epoch.{ofEpoch, withoutEpoch, changeEpoch}
+use Rattle.change_epoch.proofs.Epochs.{Swept, epoch-receives, EpochStep, epoch-step}
 use Rattle.window.specs.Window.{moved}
 use Rattle.window.specs.declared.Window.{Window}
 use Rattle.seal_frame.specs.Frame.{frameWith, frame}
 use Rattle.sframe.specs.Promises.{kidOf, ctrOf, senders, keyFrom, saltFrom}
-use Rattle.sframe.specs.History.{Call, Add, Remove, Seal, Open, Report, Find, Typed, AllTyped, Adding, Sealing, Event, added, sealed, opened, other, event, History, outcome, step, run, start}
+use Rattle.sframe.specs.History.{Call, Add, Remove, Seal, Open, Report, Find, ChangeEpoch, Typed, AllTyped, Adding, Sealing, Event, added, sealed, opened, other, event, History, outcome, step, run, start}
 use Rattle.key_record.specs.Suites.{isSuite}
 use Rattle.seal_frame.proofs.Seals.{next, Sealed, SealStep, seal-step}
 use Rattle.key_record.specs.declared.Role.{Role}
@@ -148,6 +150,31 @@ module _ (cipher : Cipher) (kid : ℕ) (new : KeyRecord) (rs rs′ : List KeyRec
   covered-change : counterOf (get kid rs) ≤ counterOf new → (log : List Event) → Each (Covered rs) log → Each (Covered rs′) log
   covered-change h log p = each-map (Covered rs) (Covered rs′) (λ x l q. omega (arith, q, counters h (kidOf x))) log p
 
+-- ---- the receiving keys of an epoch go
+
+module _ (cipher : Cipher) (E bits : ℕ) (rs rs′ : List KeyRecord) (c : Swept E bits rs rs′) (log : List Event) where
+  -- a receiving key leaves the account as it is
+  received : (r : KeyRecord) (l : List Adding) → isReceiving r ≡ true → Entry cipher r l → (l ≡ []) × (counterOf r ≡ 0)
+  received empty l t e = absurd (false≢true t)
+  received (sending r) l t e = absurd (false≢true t)
+  received (receiving r w) l t e = (e, refl)
+  received (retired r) l t e = absurd (false≢true t)
+
+  module _ (ledger : (k : ℕ) → Entry cipher (get k rs) (senders k log)) (k : ℕ) where
+    swept-entry : Entry cipher (get k rs′) (senders k log)
+    swept-entry = by (two (ofEpoch E bits (get k rs)))
+      where
+        by : Two (ofEpoch E bits (get k rs)) → Entry cipher (get k rs′) (senders k log)
+        by (yes′ t) = rw (c .found k, t) (received (get k rs) (senders k log) (epoch-receives E bits (get k rs) t) (ledger k) .0)
+        by (no′ t) = rw (c .found k, t) (ledger k)
+
+    swept-counter : counterOf (get k rs) ≤ counterOf (get k rs′)
+    swept-counter = by (two (ofEpoch E bits (get k rs)))
+      where
+        by : Two (ofEpoch E bits (get k rs)) → counterOf (get k rs) ≤ counterOf (get k rs′)
+        by (yes′ t) = omega (arith, received (get k rs) (senders k log) (epoch-receives E bits (get k rs) t) (ledger k) .1)
+        by (no′ t) = rw (c .found k, t) (omega arith)
+
 -- ---- each call
 
 senders-other : (kid : ℕ) (log : List Event) → senders kid (other ∷ log) ≡ senders kid log
@@ -167,6 +194,15 @@ addingOf role kid suite base = record { role = role; kid = kid; suite = suite; b
 -- a call that changes nothing
 pass-by : (cipher : Cipher) (rs : List KeyRecord) (log : List Event) → Account cipher rs log → Account cipher rs (other ∷ log)
 pass-by cipher rs log a = record { ledger = λ k. rw (senders-other k log) (a .ledger k); frames = a .frames; covered = a .covered }
+
+-- a change of epoch
+swept-account : (cipher : Cipher) (E bits : ℕ) (rs rs′ : List KeyRecord) (log : List Event) → Account cipher rs log → Swept E bits rs rs′ → Account cipher rs′ (other ∷ log)
+swept-account cipher E bits rs rs′ log a c =
+    pass-by cipher rs′ log (record {
+      ledger = swept-entry cipher E bits rs rs′ c log (a .ledger);
+      frames = a .frames;
+      covered = each-map (Covered rs) (Covered rs′) (λ x l q. omega (arith, q, swept-counter cipher E bits rs rs′ c log (a .ledger) (kidOf x))) log (a .covered);
+    })
 
 module _ (cipher : Cipher) (rs : List KeyRecord) (log : List Event) (a : Account cipher rs log) (kid : ℕ) where
   -- ---- Add
@@ -351,6 +387,11 @@ module _ (cipher : Cipher) (laws : Laws cipher) where
           (opened-account cipher (i .table) (h .log) (i .account) (readKid (readHeader bytes)) (readCtr (readHeader bytes)) (opening cipher (h .store) metadata bytes room) r w p)
   step-keeps (Report kid) h q i = stays cipher h i _ _ (report-store (h .store) kid) refl
   step-keeps (Find kid) h q i = stays cipher h i _ _ (find-store (h .store) kid) refl
+  step-keeps (ChangeEpoch width bits) h q i = by (epoch-step width bits (h .store) (i .table) (i .is-stored))
+    where
+      by : EpochStep width bits (h .store) (i .table) (changeEpoch (h .store) width bits) → Inv cipher (step cipher (ChangeEpoch width bits) h)
+      by (EpochStep.refused d e) = stays cipher h i _ _ e refl
+      by (EpochStep.done z c st) = goes-on cipher h i _ (withoutEpoch width bits (i .table)) other other st refl (swept-account cipher width bits (i .table) (withoutEpoch width bits (i .table)) (h .log) (i .account) c)
 
   pub run-keeps : (cs : List Call) (h : History) → AllTyped cs → Inv cipher h → Inv cipher (run cipher cs h)
   unfolding run

@@ -20,7 +20,7 @@ use Rattle.add_key.specs.Add.{barred, add}
 use Rattle.add_key.proofs.Adds.{AddStep, add-step}
 use Rattle.seal_frame.specs.Seal.{seal}
 use Rattle.open_frame.specs.Open.{opening}
-use Rattle.sframe.specs.History.{Call, Add, Remove, Seal, Open, Report, Find, Typed, AllTyped, Adding, Sealing, Event, added, sealed, opened, other, event, History, outcome, step, run, start}
+use Rattle.sframe.specs.History.{Call, Add, Remove, Seal, Open, Report, Find, ChangeEpoch, Typed, AllTyped, Adding, Sealing, Event, added, sealed, opened, other, event, History, outcome, step, run, start}
 use Rattle.sframe.specs.Promises.{isSender, senders, NeverAgain, NoneBarred}
 use Rattle.sframe.proofs.Ledger.{Inv, step-keeps}
 
@@ -65,6 +65,7 @@ module _ (cipher : Cipher) (laws : Laws cipher) where
       by (no′ t) = rw t p
   fresh-step (Report kid) h q i p = p
   fresh-step (Find kid) h q i p = p
+  fresh-step (ChangeEpoch width bits) h q i p = p
 
   pub run-fresh : (cs : List Call) (h : History) → AllTyped cs → Inv cipher h → Fresh (h .log) → Fresh (run cipher cs h .log)
   unfolding run

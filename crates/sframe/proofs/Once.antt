@@ -28,7 +28,9 @@ use Rattle.seal_frame.specs.Seal.{seal}
 use Rattle.seal_frame.proofs.Seals.{next, SealStep, seal-step}
 use Rattle.open_frame.specs.Open.{opening}
 use Rattle.open_frame.proofs.Opened.{OpenStep, open-step}
-use Rattle.sframe.specs.History.{Call, Add, Remove, Seal, Open, Report, Find, Typed, AllTyped, Opening, Event, added, sealed, opened, other, event, History, outcome, step, run, start}
+use Rattle.change_epoch.specs.Epoch.{ofEpoch, withoutEpoch, changeEpoch}
+use Rattle.change_epoch.proofs.Epochs.{Swept, EpochStep, epoch-step}
+use Rattle.sframe.specs.History.{Call, Add, Remove, Seal, Open, Report, Find, ChangeEpoch, Typed, AllTyped, Opening, Event, added, sealed, opened, other, event, History, outcome, step, run, start}
 use Rattle.sframe.specs.Promises.{AddedIn, OpenedOnce}
 use Rattle.sframe.proofs.Ledger.{happened, passed-by, find-store, report-store}
 
@@ -114,6 +116,15 @@ none-guarded : (P : ℕ → Type 0) → ((c : ℕ) → P c) → (cs : List ℕ) 
 none-guarded P f [] = tt
 none-guarded P f (c ∷ cs) = (f c, none-guarded P f cs)
 
+-- ---- the receiving keys of an epoch go
+
+guarded-swept : (E bits : ℕ) (rs rs′ : List KeyRecord) → Swept E bits rs rs′ → (log : List Event) → Guarded rs log → Guarded rs′ log
+guarded-swept E bits rs rs′ c log g k = by (two (ofEpoch E bits (get k rs)))
+  where
+    by : Two (ofEpoch E bits (get k rs)) → All (Guards (get k rs′)) (since k log)
+    by (yes′ t) = rw (c .found k, t) (none-guarded (Guards empty) (λ c. tt) (since k log))
+    by (no′ t) = rw (c .found k, t) (g k)
+
 -- ---- each call
 
 module _ (h : History) (v : Watch h) where
@@ -170,6 +181,11 @@ module _ (cipher : Cipher) (laws : Laws cipher) where
           (all-map (Stops w) (λ (c : ℕ). ctr ≡ c → ⊥) (not-stopped w ctr f (p .not-seen) (p .not-old)) (since kid (h .log)) g, v .each)
   watch-step (Report kid) h q v = goes-by h v _ _ (report-store (h .store) kid) refl
   watch-step (Find kid) h q v = goes-by h v _ _ (find-store (h .store) kid) refl
+  watch-step (ChangeEpoch width bits) h q v = by (epoch-step width bits (h .store) (v .table) (v .is-stored))
+    where
+      by : EpochStep width bits (h .store) (v .table) (changeEpoch (h .store) width bits) → Watch (step cipher (ChangeEpoch width bits) h)
+      by (EpochStep.refused d e) = goes-by h v _ _ e refl
+      by (EpochStep.done z c st) = record { table = withoutEpoch width bits (v .table); is-stored = st; guarded = guarded-swept width bits (v .table) (withoutEpoch width bits (v .table)) c (h .log) (v .guarded); each = v .each }
 
   pub run-watch : (cs : List Call) (h : History) → AllTyped cs → Watch h → Watch (run cipher cs h)
   unfolding run

@@ -1,28 +1,31 @@
 -- A store that is made is sound, every call leaves a sound store sound, and a refusal changes nothing. Assumes nothing.
-use mathlib.Core.Path.{_≡_, refl}
-use mathlib.Core.Bool.{true}
+use mathlib.Core.Path.{_≡_, refl, _∙_, ap}
+use mathlib.Core.Bool.{Bool, true}
 use mathlib.Core.List.{List, []}
 use Prim.Native.Nat.{ℕ, zero, suc, _/_}
 use lib.ListN.{length, replicate}
-use Rattle.octets.specs.Octets.{Octets}
+use Rattle.octets.specs.Octets.{Octets, pick}
 use Rattle.answers.specs.Answers.{Outcome, settled}
 use Rattle.store.specs.Calls.{make, removeAt, remove, find}
 use Rattle.add_key.specs.Add.{addAt, add}
 use Rattle.store.specs.Cipher.{Cipher}
 use Rattle.key_record.specs.Record.{KeyRecord, empty}
 use Rattle.store.specs.Store.{records, sound}
+use Rattle.store.specs.Table.{get}
 use Rattle.store.proofs.CipherLaws.{Laws}
 use Rattle.store.proofs.Keys.{make-stored, RemoveStep, remove-step}
 use Rattle.add_key.proofs.Adds.{AddStep, add-step}
-use Rattle.store.proofs.Stores.{Stored, sound-stored, stored-sound, stored-octets}
+use Rattle.store.proofs.Stores.{Stored, sound-stored, stored-sound, stored-records, stored-octets, stored-lengths}
 use Rattle.seal_frame.specs.Seal.{sealAt, seal}
 use Rattle.open_frame.specs.Open.{openAt, opening}
 use Rattle.open_frame.proofs.Opened.{OpenStep, open-step}
 use Rattle.report_window.specs.Report.{report}
 use Rattle.header.specs.Answers.{readKid, readCtr}
 use Rattle.header.specs.Header.{readHeader}
-use Rattle.sframe.specs.Promises.{Unchanged}
-use Rattle.sframe.specs.History.{Call, Add, Remove, Seal, Open, Report, Find, Typed, outcome}
+use Rattle.change_epoch.specs.Epoch.{withoutEpoch, epochAt, changeEpoch}
+use Rattle.change_epoch.proofs.Epochs.{EpochStep, epoch-step}
+use Rattle.sframe.specs.Promises.{Unchanged, EpochChanged}
+use Rattle.sframe.specs.History.{Call, Add, Remove, Seal, Open, Report, Find, ChangeEpoch, Typed, outcome}
 use Rattle.sframe.proofs.Ledger.{find-store, report-store}
 use Rattle.seal_frame.proofs.Seals.{SealStep, seal-step}
 
@@ -60,6 +63,11 @@ module _ (cipher : Cipher) (laws : Laws cipher) where
       by x (OpenStep.refused d p) = rw p (o, e)
   call-sound (Report kid) s q o e = rw (report-store s kid) (o, e)
   call-sound (Find kid) s q o e = rw (find-store s kid) (o, e)
+  call-sound (ChangeEpoch width bits) s q o e = by (changeEpoch s width bits) (epoch-step width bits s (records s) (sound-stored s o e))
+    where
+      by : (x : Outcome) → EpochStep width bits s (records s) x → Octets (x .store) × (sound (x .store) ≡ true)
+      by x (EpochStep.done z c t) = sound-bytes (x .store) _ t
+      by x (EpochStep.refused d p) = rw p (o, e)
 
 -- ---- refusals
 
@@ -71,10 +79,26 @@ unchanged (suc n) s room o z d = (refl, refl, refl)
 
 -- of any store, sound or not
 pub refusal-changes-nothing : (cipher : Cipher) (c : Call) (s : List ℕ) → (outcome cipher c s .number ≡ 0 → ⊥) → Unchanged c s (outcome cipher c s)
-unfolding outcome add addAt remove removeAt seal sealAt opening openAt report find
+unfolding outcome add addAt remove removeAt seal sealAt opening openAt report find changeEpoch epochAt
 refusal-changes-nothing cipher (Add role kid suite base) s d = let u = unchanged _ s [] _ refl d in record { nothing-written = u .0; store-stays = u .1; room-stays = u .2 }
 refusal-changes-nothing cipher (Remove kid place) s d = let u = unchanged _ s [] _ refl d in record { nothing-written = u .0; store-stays = u .1; room-stays = u .2 }
 refusal-changes-nothing cipher (Seal kid place metadata plaintext offset room) s d = let u = unchanged _ s room _ refl d in record { nothing-written = u .0; store-stays = u .1; room-stays = u .2 }
 refusal-changes-nothing cipher (Open place metadata bytes room) s d = let u = unchanged _ s room _ refl d in record { nothing-written = u .0; store-stays = u .1; room-stays = u .2 }
 refusal-changes-nothing cipher (Report kid) s d = let u = unchanged _ s [] _ refl d in record { nothing-written = u .0; store-stays = u .1; room-stays = u .2 }
 refusal-changes-nothing cipher (Find kid) s d = let u = unchanged _ s [] _ refl d in record { nothing-written = u .0; store-stays = u .1; room-stays = u .2 }
+refusal-changes-nothing cipher (ChangeEpoch width bits) s d = let u = unchanged _ s [] _ refl d in record { nothing-written = u .0; store-stays = u .1; room-stays = u .2 }
+
+-- ---- a change of epoch
+
+pub epoch-changes : (s : List ℕ) (width bits : ℕ) → Octets s → sound s ≡ true → changeEpoch s width bits .number ≡ 0 → EpochChanged s width bits (changeEpoch s width bits)
+epoch-changes s width bits o e z = by (changeEpoch s width bits) z (epoch-step width bits s (records s) (sound-stored s o e))
+  where
+    by : (x : Outcome) → x .number ≡ 0 → EpochStep width bits s (records s) x → EpochChanged s width bits x
+    by x z (EpochStep.refused d p) = absurd (d z)
+    by x z (EpochStep.done y c t) =
+        let r = stored-records (x .store) (withoutEpoch width bits (records s)) t in
+        record {
+          length-stays = stored-lengths (x .store) s (withoutEpoch width bits (records s)) (records s) t (sound-stored s o e) (c .same-length);
+          gone = λ kid h. ap (get kid) r ∙ c .found kid ∙ ap (λ (b : Bool). pick b empty (get kid (records s))) h;
+          stays = λ kid h. ap (get kid) r ∙ c .found kid ∙ ap (λ (b : Bool). pick b empty (get kid (records s))) h;
+        }

@@ -20,7 +20,8 @@ use Rattle.store.specs.Store.{sound}
 use Rattle.pair_log.specs.Report.{decimal, line, report}
 use Rattle.seal_frame.specs.Seal.{seal}
 use Rattle.open_frame.specs.Open.{opening}
-use Rattle.sframe.specs.Promises.{Kept, NeverAgain, NoneBarred, OpenedOnce, Offered, WindowCauses, Openable, OpensExactly, Alike, SameAnswer, Unchanged}
+use Rattle.change_epoch.specs.Epoch.{changeEpoch}
+use Rattle.sframe.specs.Promises.{Kept, NeverAgain, NoneBarred, OpenedOnce, Offered, WindowCauses, Openable, OpensExactly, Alike, SameAnswer, Unchanged, EpochChanged}
 use Rattle.store.specs.Sframe.{sframe}
 use Rattle.sframe.specs.History.{Call, Sealing, Typed, AllTyped, outcome, run, start}
 use Rattle.sframe.specs.Logs.{sealings, Taken, logOf}
@@ -32,7 +33,7 @@ use Rattle.sframe.proofs.Never.{Fresh, run-fresh, fresh-never, fresh-al
 use Rattle.sframe.proofs.Once.{run-watch, start-watch, once}
 use Rattle.sframe.proofs.Opens.{opens-exactly, window-causes-are, fresh-passes}
 use Rattle.sframe.proofs.Suites.{suites-laws}
-use Rattle.sframe.proofs.Soundness.{made-sound, call-sound, refusal-changes-nothing}
+use Rattle.sframe.proofs.Soundness.{made-sound, call-sound, refusal-changes-nothing, epoch-changes}
 
 -- Every list of calls, refused ones included, on the store that a Make answering 0 leaves, at any length that it accepts:
 -- its sealed frames carry different KIDs and counters, use different nonces under one KID, none equals or begins another,
@@ -103,3 +104,7 @@ made = made-sound
 -- A refused call changes nothing, on any store.
 pub refused-unchanged : (cipher : Cipher) (c : Call) (s : List ℕ) → (outcome cipher c s .number ≡ 0 → ⊥) → Unchanged c s (outcome cipher c s)
 refused-unchanged = refusal-changes-nothing
+
+-- A change of epoch that answers 0 removes exactly the receiving keys of that epoch.
+pub epoch-changed : (s : List ℕ) (width bits : ℕ) → Octets s → sound s ≡ true → changeEpoch s width bits .number ≡ 0 → EpochChanged s width bits (changeEpoch s width bits)
+epoch-changed = epoch-changes

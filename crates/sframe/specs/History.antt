@@ -14,6 +14,7 @@ use Rattle.store.specs.Cipher.{Cipher}
 use Rattle.seal_frame.specs.Seal.{seal}
 use Rattle.open_frame.specs.Open.{opening}
 use Rattle.report_window.specs.Report.{report}
+use Rattle.change_epoch.specs.Epoch.{changeEpoch}
 use Rattle.key_record.specs.declared.Role.{Role}
 
 -- A call with its inputs and its room. A place is any number: what a call does has no use for it.
@@ -24,8 +25,9 @@ pub data Call : Type 0 where
   Open : (place : ℕ) (metadata frame room : List ℕ) → Call
   Report : (kid : ℕ) → Call
   Find : (kid : ℕ) → Call
+  ChangeEpoch : (width bits : ℕ) → Call
 
--- The inputs are what the types of the code admit: a KID has 64 bits, everything lent is bytes.
+-- The inputs are what the types of the code admit: a KID, a width and the bits of an epoch have 64 bits, everything lent is bytes.
 abbrev pub Typed : Call → Type 0
 Typed (Add role kid suite base) = (kid < 2 ^ 64) × Octets base
 Typed (Remove kid place) = kid < 2 ^ 64
@@ -33,6 +35,7 @@ Typed (Seal kid place metadata plaintext offset room) = (kid < 2 ^ 64) × Octets
 Typed (Open place metadata frame room) = Octets metadata × Octets frame × Octets room
 Typed (Report kid) = kid < 2 ^ 64
 Typed (Find kid) = kid < 2 ^ 64
+Typed (ChangeEpoch width bits) = (width < 2 ^ 64) × (bits < 2 ^ 64)
 
 -- The room that a call is lent.
 abbrev pub roomOf : Call → List ℕ
@@ -42,6 +45,7 @@ roomOf (Seal kid place metadata plaintext offset room) = room
 roomOf (Open place metadata frame room) = room
 roomOf (Report kid) = []
 roomOf (Find kid) = []
+roomOf (ChangeEpoch width bits) = []
 
 abbrev pub AllTyped : List Call → Type 0
 AllTyped [] = Unit {0}
@@ -65,7 +69,7 @@ pub record Opening : Type 0 where
   pub kid : ℕ
   pub ctr : ℕ
 
--- What a call yields; every refused call, every Remove, every Report and every Find is one of the others.
+-- What a call yields; every refused call, every Remove, Report, Find and ChangeEpoch is one of the others.
 pub data Event : Type 0 where
   added : Adding → Event
   sealed : Sealing → Event
@@ -79,6 +83,7 @@ event (Seal kid place metadata plaintext offset room) o = pick (eqb (o .number) 
 event (Open place metadata frame room) o = pick (eqb (o .number) 0) (opened (record { kid = readKid (readHeader frame); ctr = readCtr (readHeader frame) })) other
 event (Report kid) o = other
 event (Find kid) o = other
+event (ChangeEpoch width bits) o = other
 
 -- The store, and the events so far, the newest first.
 pub record History : Type 0 where
@@ -93,6 +98,7 @@ module _ (cipher : Cipher) where
   outcome (Open place metadata frame room) s = opening cipher s metadata frame room
   outcome (Report kid) s = report s kid
   outcome (Find kid) s = find s kid
+  outcome (ChangeEpoch width bits) s = changeEpoch s width bits
 
   unfoldable pub step : Call → History → History
   step c h =

@@ -15,13 +15,14 @@ use Rattle.answers.specs.Answers.{alreadyOpened, counterTooOld, Outcome}
 use Rattle.store.specs.Cipher.{Cipher}
 use Rattle.key_record.specs.Record.{ReceivingKey, empty, receiving, holds}
 use Rattle.store.specs.Store.{encodeAll, records, sound}
-use Rattle.store.specs.Table.{put}
+use Rattle.store.specs.Table.{get, put}
 use Rattle.window.specs.Window.{seen, tooOld, moved}
 use Rattle.window.specs.declared.Window.{Window}
 use Rattle.answers.specs.Limits.{maxPlaintext, maxMetadata}
 use Rattle.add_key.specs.Add.{barred}
 use Rattle.open_frame.specs.Open.{opening}
 use Rattle.seal_frame.specs.Frame.{frameWith, frame}
+use Rattle.change_epoch.specs.Epoch.{ofEpoch}
 use Rattle.key_record.specs.Suites.{tagSize}
 use Rattle.sframe.specs.History.{Call, roomOf, Adding, Sealing, Opening, Event, added, sealed, opened, other}
 use Rattle.key_record.specs.declared.Role.{Role}
@@ -201,3 +202,12 @@ pub record SameAnswer (s t : List ℕ) (i j : ℕ) (o p : Outcome) : Type 0 wher
   pub same-record : getD (records (o .store)) i empty ≡ getD (records (p .store)) j empty
   pub s-others : OthersStay s o i
   pub t-others : OthersStay t p j
+
+-- ---- a change of epoch
+
+-- "Exactly the receiving keys of that epoch are gone, everything else is as it was": of each KID nothing is held where a receiving key of
+-- the epoch was, and else what was, key, counter and window alike.
+pub record EpochChanged (s : List ℕ) (width bits : ℕ) (o : Outcome) : Type 0 where
+  pub length-stays : length (o .store) ≡ length s
+  pub gone : (kid : ℕ) → ofEpoch width bits (get kid (records s)) ≡ true → get kid (records (o .store)) ≡ empty
+  pub stays : (kid : ℕ) → ofEpoch width bits (get kid (records s)) ≡ false → get kid (records (o .store)) ≡ get kid (records s)

@@ -12,6 +12,8 @@ ghost use Rattle.seal_frame.specs.Seal.{seal};
 ghost use Rattle.open_frame.specs.Open.{opening};
 ghost use Rattle.report_window.specs.Report.{report, reported};
 ghost use Rattle.ratchet.specs.Calls.{walk, kidNumber, kidGiven};
+ghost use Rattle.group.specs.Group.{contextIn, indexIn, epochIn, given, packNumber, packed, unpackNumber};
+ghost use Rattle.change_epoch.specs.Epoch.{changeEpoch};
 use answers::DONE;
 use answers::HEADER_INVALID;
 use answers::ROOM_SHORT;
@@ -281,4 +283,51 @@ pub extern "C" fn sframe_ratchet_kid(generation: u64, step: u64, bits: u64, kid:
     let answer = ratchet::kid_of(generation, step, bits);
     *kid = answer.kid.0;
     answer.number
+}
+
+// The KID of a member of a group: s bits are the index's, e bits the epoch's.
+#[no_mangle]
+pub extern "C" fn sframe_group_kid(
+    context: u64,
+    index: u64,
+    epoch: u64,
+    s: u64,
+    e: u64,
+    kid: &mut u64,
+) -> u32
+    ensures { λ r. ⌜ r ≡ packNumber s e context index epoch ⌝ }
+    ensures { λ r. ⌜ now (kid .exit) ≡ packed s e context index epoch ⌝ }
+{
+    let answer = group::pack(context, index, epoch, s, e);
+    *kid = answer.kid.0;
+    answer.number
+}
+
+#[no_mangle]
+pub extern "C" fn sframe_group_parts(
+    kid: u64,
+    s: u64,
+    e: u64,
+    context: &mut u64,
+    index: &mut u64,
+    epoch: &mut u64,
+) -> u32
+    ensures { λ r. ⌜ r ≡ unpackNumber s e ⌝ }
+    ensures { λ r. ⌜ now (context .exit) ≡ given (unpackNumber s e) (contextIn s e kid) ⌝ }
+    ensures { λ r. ⌜ now (index .exit) ≡ given (unpackNumber s e) (indexIn s e kid) ⌝ }
+    ensures { λ r. ⌜ now (epoch .exit) ≡ given (unpackNumber s e) (epochIn e kid) ⌝ }
+{
+    let answer = group::unpack(Kid(kid), s, e);
+    *context = answer.context;
+    *index = answer.index;
+    *epoch = answer.epoch;
+    answer.number
+}
+
+#[no_mangle]
+pub extern "C" fn sframe_change_epoch(store: &mut [u8], e: u64, bits: u64) -> u32
+    ensures { λ r. ⌜ r ≡ changeEpoch (now (store .entry)) e bits .number ⌝ }
+    ensures { λ r. ⌜ now (store .exit) ≡ changeEpoch (now (store .entry)) e bits .store ⌝ }
+{
+    change_epoch::change_epoch(store, e, bits)
 }

@@ -26,7 +26,7 @@ use Rattle.key_record.specs.declared.Role.the-variants.{Sending, Receiving}
 
 -- ---- Make
 
-zeros : (n : ℕ) → encodeAll (replicate n empty) ≡ replicate (n * recordSize) 0
+pub zeros : (n : ℕ) → encodeAll (replicate n empty) ≡ replicate (n * recordSize) 0
 unfolding encodeAll encode
 zeros zero = refl
 zeros (suc n) =
@@ -41,7 +41,7 @@ empties-fit : (n : ℕ) → AllFit (replicate n empty)
 empties-fit zero = tt
 empties-fit (suc n) = (tt, empties-fit n)
 
-empties-from : (n : ℕ) → orderedFrom empty (replicate n empty) ≡ true
+pub empties-from : (n : ℕ) → orderedFrom empty (replicate n empty) ≡ true
 unfolding orderedFrom inOrder
 empties-from zero = refl
 empties-from (suc n) = empties-from n

@@ -1,7 +1,7 @@
 pub mod CipherLaws
 mod Finds
 pub mod Keys
-mod Moves
+pub mod Moves
 pub mod Order
 pub mod Places
 mod Removal

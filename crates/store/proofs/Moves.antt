@@ -16,7 +16,7 @@ use Rattle.store.proofs.Stores.{AllFit, Stored, stored-length, past-one
 
 -- ---- parts of a table, in bytes
 
-encode-append : (xs ys : List KeyRecord) → encodeAll (xs ++ ys) ≡ encodeAll xs ++ encodeAll ys
+pub encode-append : (xs ys : List KeyRecord) → encodeAll (xs ++ ys) ≡ encodeAll xs ++ encodeAll ys
 unfolding encodeAll
 encode-append [] ys = refl
 encode-append (x ∷ xs) ys = ap (λ (t : List ℕ). encode x ++ t) (encode-append xs ys) ∙ sym (append-assoc (encode x) (encodeAll xs) (encodeAll ys))
@@ -47,7 +47,7 @@ mid a b w q at n e f =
     ap₂ (λ (x y : List ℕ). x ++ (q ++ drop n y)) (take-at a (b ++ w) at e) (drop-at a (b ++ w) at e) ∙ ap (λ (y : List ℕ). a ++ (q ++ y)) (drop-at b w n f)
 
 -- the last part
-mid-last : (s q : List ℕ) (at : ℕ) → at ≤ length s → putMid at (length s - at) s q ≡ take at s ++ q
+pub mid-last : (s q : List ℕ) (at : ℕ) → at ≤ length s → putMid at (length s - at) s q ≡ take at s ++ q
 mid-last s q at h =
     ap (λ (y : List ℕ). take at s ++ (q ++ y)) (drop-of-length-le (drop at s) {i = length s - at} (simp length-drop (omega arith)))
     ∙ ap (λ (y : List ℕ). take at s ++ y) (append-nil q)

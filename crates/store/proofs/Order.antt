@@ -71,11 +71,11 @@ module _ (r x : KeyRecord) where
 
 -- ---- records in order
 
-from-cons : (r x : KeyRecord) (xs : List KeyRecord) → orderedFrom r (x ∷ xs) ≡ true → (inOrder r x ≡ true) × (orderedFrom x xs ≡ true)
+pub from-cons : (r x : KeyRecord) (xs : List KeyRecord) → orderedFrom r (x ∷ xs) ≡ true → (inOrder r x ≡ true) × (orderedFrom x xs ≡ true)
 unfolding orderedFrom
 from-cons r x xs e = both-true (inOrder r x) (orderedFrom x xs) e
 
-cons-from : (r x : KeyRecord) (xs : List KeyRecord) → inOrder r x ≡ true → orderedFrom x xs ≡ true → orderedFrom r (x ∷ xs) ≡ true
+pub cons-from : (r x : KeyRecord) (xs : List KeyRecord) → inOrder r x ≡ true → orderedFrom x xs ≡ true → orderedFrom r (x ∷ xs) ≡ true
 unfolding orderedFrom
 cons-from r x xs p q = both-and (inOrder r x) (orderedFrom x xs) p q
 
@@ -87,7 +87,7 @@ ordered-from : (x : KeyRecord) (xs : List KeyRecord) → ordered (x ∷ xs) ≡ 
 unfolding ordered
 ordered-from x xs = refl
 
-ordered-rest : (x : KeyRecord) (xs : List KeyRecord) → orderedFrom x xs ≡ true → ordered xs ≡ true
+pub ordered-rest : (x : KeyRecord) (xs : List KeyRecord) → orderedFrom x xs ≡ true → ordered xs ≡ true
 unfolding ordered
 ordered-rest x [] e = refl
 ordered-rest x (y ∷ ys) e = from-cons x y ys e .1
@@ -140,7 +140,7 @@ from-snoc r [] e = cons-from r empty [] (order-vacant r empty refl) (from-none e
 from-snoc r (x ∷ xs) e = cons-from r x (xs ++ (empty ∷ [])) (from-cons r x xs e .0) (from-snoc x xs (from-cons r x xs e .1))
 
 -- without the first record, what stood before it goes on with those behind
-from-past : (r x : KeyRecord) (xs : List KeyRecord) → isEmpty x ≡ false → orderedFrom r (x ∷ xs) ≡ true → orderedFrom r xs ≡ true
+pub from-past : (r x : KeyRecord) (xs : List KeyRecord) → isEmpty x ≡ false → orderedFrom r (x ∷ xs) ≡ true → orderedFrom r xs ≡ true
 from-past r x [] n e = from-none r
 from-past r x (y ∷ ys) n e = cons-from r y ys (by (behind r x (q .0)) (behind x y (from-cons x y ys (q .1) .0))) (from-cons x y ys (q .1) .1)
   where

@@ -248,7 +248,7 @@ get-fit kid (x ∷ xs) a = by (two (holds kid x)) (get-fit kid xs (a .1))
     by (no′ t) g = rw t g
 
 -- as many records, in order
-changed-table : (rs new : List KeyRecord) → Table rs → length new ≡ length rs → AllFit new → ordered new ≡ true → Table new
+pub changed-table : (rs new : List KeyRecord) → Table rs → length new ≡ length rs → AllFit new → ordered new ≡ true → Table new
 changed-table rs new t n f o = record { fit = f; in-order = o; some = omega (arith, t .some); most = omega (arith, t .most) }
 
 module _ (kid : ℕ) (rs : List KeyRecord) (t : Table rs) where

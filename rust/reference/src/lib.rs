@@ -12,6 +12,7 @@ pub mod aes;
 pub mod ctr;
 pub mod gcm;
 pub mod ghash;
+pub mod group;
 pub mod header;
 pub mod hkdf;
 pub mod hmac;

@@ -39,6 +39,10 @@ pub enum Refusal {
     BadRatchetKid = 20,
     /// More than 64 steps.
     TooManySteps = 21,
+    /// The index has more than S bits, or the epoch bits more than E.
+    GroupPartTooLarge = 22,
+    /// S + E is more than 64, or the KID is past 64 bits.
+    GroupKidTooLong = 23,
 }
 
 /// What a call answers: the length of its result, or why it refuses.

@@ -5,6 +5,7 @@
 //! names them. A refusal changes no lent byte.
 
 use crate::aead::Aead;
+use crate::group;
 use crate::header::{part, read_header, write_header};
 use crate::record::{Record, State, RECORD};
 use crate::refusal::{Answer, Refusal};
@@ -95,6 +96,21 @@ pub fn remove(store: &mut [u8], kid: u64) -> Answer {
         State::Retired => return Err(Refusal::WrongRole),
     }
     write_store(store, &records);
+    Ok(0)
+}
+
+/// Removes exactly the receiving keys whose KID has `bits` as its low `width`
+/// bits, be there none. Refusals: 1, 23, 22.
+pub fn change_epoch(store: &mut [u8], width: u64, bits: u64) -> Answer {
+    let records = read_store(store)?;
+    group::check_epoch(width, bits)?;
+    let goes = |record: &Record| {
+        record.state == State::Receiving && group::low_bits(record.kid, width) == bits
+    };
+    let stay = records.iter().flatten().filter(|record| !goes(record));
+    let mut left: Vec<Option<Record>> = stay.cloned().map(Some).collect();
+    left.resize(records.len(), None);
+    write_store(store, &left);
     Ok(0)
 }
 

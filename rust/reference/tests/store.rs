@@ -558,6 +558,69 @@ fn report_refuses_in_order() {
     assert_eq!(report(&store, 2), Ok(0));
 }
 
+#[test]
+fn change_epoch_refuses_in_order() {
+    let store = filled(SUITES[0]);
+    let call = |width, bits| move |store: &mut [u8], _: &mut [u8]| change_epoch(store, width, bits);
+    refused(&store[1..], StoreNotSound, call(65, u64::MAX), 0);
+    for width in [65, u64::MAX] {
+        refused(&store, GroupKidTooLong, call(width, 0), 0);
+        refused(&store, GroupKidTooLong, call(width, u64::MAX), 0);
+    }
+    for (width, bits) in [(0, 1), (1, 2), (4, 16), (63, 1 << 63)] {
+        refused(&store, GroupPartTooLarge, call(width, bits), 0);
+    }
+}
+
+/// Receiving keys of the epoch go; sending and retired records of the same bits,
+/// and receiving ones of others, stay as they are and close up.
+#[test]
+fn a_change_of_epoch() {
+    let suite = SUITES[3];
+    let mut store = made(8);
+    let receive = |store: &mut [u8], kid| {
+        add(store, Role::Receiving, suite.number(), kid, &BASE_KEY).unwrap();
+    };
+    for kid in [0x0e, 0x3e, 0x3f, 0x14e, 0x21e] {
+        receive(&mut store, kid);
+    }
+    for kid in [0x7e, 0x8e] {
+        add(&mut store, Role::Sending, suite.number(), kid, &BASE_KEY).unwrap();
+    }
+    seal_to_vec(&mut store, 0x7e, b"", b"picture");
+    remove(&mut store, 0x8e).unwrap();
+    let at = |store: &[u8], kid| store[find(store, kid).unwrap() * RECORD..][..RECORD].to_vec();
+    let before = store.clone();
+    let left = |store: &[u8], kids: &[u64]| {
+        let mut expected: Vec<u8> = kids.iter().flat_map(|&kid| at(&before, kid)).collect();
+        expected.resize(8 * RECORD, 0);
+        assert!(*store == expected);
+    };
+
+    // There are none of this epoch.
+    assert_eq!(change_epoch(&mut store, 4, 3), Ok(0));
+    assert_eq!(store, before);
+    assert_eq!(change_epoch(&mut store, 4, 0xe), Ok(0));
+    left(&store, &[0x3f, 0x7e, 0x8e]);
+    // The epoch comes round again: the numbers are free, but for the sender's.
+    receive(&mut store, 0x3e);
+    for kid in [0x7e, 0x8e] {
+        let again = add(&mut store, Role::Receiving, suite.number(), kid, &BASE_KEY);
+        assert_eq!(again, Err(KidHeld));
+    }
+
+    // All 64 bits name one KID, and none name every one.
+    for (width, bits, kids) in [
+        (64, 0x3e, &[0x0e, 0x3f, 0x7e, 0x8e, 0x14e, 0x21e][..]),
+        (64, 0x7e, &[0x0e, 0x3e, 0x3f, 0x7e, 0x8e, 0x14e, 0x21e]),
+        (0, 0, &[0x7e, 0x8e]),
+    ] {
+        let mut store = before.clone();
+        assert_eq!(change_epoch(&mut store, width, bits), Ok(0));
+        left(&store, kids);
+    }
+}
+
 /// Each frame at most once; a frame whose tag differs moves nothing.
 #[test]
 fn no_frame_is_opened_twice() {

@@ -30,6 +30,14 @@ extern "C" {
     /// Removes a key, whose record is looked for at `place` first.
     pub fn sframe_remove_near(store: *mut u8, store_len: usize, kid: u64, place: usize) -> u32;
 
+    /// Removes the receiving keys of an epoch, by the low bits of their key numbers.
+    pub fn sframe_change_epoch(
+        store: *mut u8,
+        store_len: usize,
+        epoch_width: u64,
+        epoch_bits: u64,
+    ) -> u32;
+
     /// The place of the record of a key number.
     pub fn sframe_find(store: *const u8, store_len: usize, kid: u64, place: *mut usize) -> u32;
 
@@ -151,4 +159,24 @@ extern "C" {
 
     /// The key number of a generation and a step.
     pub fn sframe_ratchet_kid(generation: u64, step: u64, bits: u64, kid: *mut u64) -> u32;
+
+    /// The key number of a member of an MLS group.
+    pub fn sframe_group_kid(
+        context: u64,
+        index: u64,
+        epoch: u64,
+        index_width: u64,
+        epoch_width: u64,
+        kid: *mut u64,
+    ) -> u32;
+
+    /// The parts of the key number of a member of an MLS group.
+    pub fn sframe_group_parts(
+        kid: u64,
+        index_width: u64,
+        epoch_width: u64,
+        context: *mut u64,
+        index: *mut u64,
+        epoch: *mut u64,
+    ) -> u32;
 }

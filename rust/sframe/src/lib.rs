@@ -29,6 +29,7 @@
 
 #[allow(unsafe_code)]
 pub mod ffi;
+mod group;
 mod header;
 mod limits;
 mod metadata;
@@ -41,6 +42,7 @@ mod store;
 mod suite;
 mod view;
 
+pub use group::{group_kid, group_parts, EpochBits, GroupParts, GroupWidths};
 pub use header::{read_header, write_header, write_header_at, Ctr, Header, Kid, MAX_HEADER};
 pub use limits::{
     frame_room, MAX_BASE_KEY, MAX_COUNTER, MAX_METADATA, MAX_PLAINTEXT, MAX_RATCHET_BITS,

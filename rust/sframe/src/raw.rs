@@ -5,15 +5,17 @@
 //! pointer is valid for its length, and whatever is written overlaps nothing
 //! else of the call.
 
+mod group;
 mod header;
 mod ratchet;
 mod store;
 
+pub use group::{group_kid, group_parts, GroupKid, Parts};
 pub use header::{read_header, write_header, write_header_at, Read};
 pub use ratchet::{ratchet, ratchet_kid, RatchetKid};
 pub use store::{
-    add_receiving, add_sending, find, make, open, open_near, remove, remove_near, report, seal,
-    seal_at, seal_near, Found, Report,
+    add_receiving, add_sending, change_epoch, find, make, open, open_near, remove, remove_near,
+    report, seal, seal_at, seal_near, Found, Report,
 };
 
 /// A value to start an answer from that no call leaves in place by chance.

@@ -62,13 +62,19 @@ pub enum Refusal {
     BadRatchetKid = 20,
     /// A base key is walked more than 64 steps at once.
     TooManySteps = 21,
+    /// The index in a group's key number, or the bits of an epoch that is removed,
+    /// do not fit their width.
+    GroupPartTooLarge = 22,
+    /// The widths in a group's key number are above 64 together, or the key number
+    /// does not fit in 64 bits.
+    GroupKidTooLong = 23,
 }
 
 use Refusal::*;
 
 impl Refusal {
     /// Every refusal, by rising number.
-    pub const ALL: [Refusal; 18] = [
+    pub const ALL: [Refusal; 20] = [
         StoreNotSound,
         NoSuchSuite,
         BaseKeyLength,
@@ -87,6 +93,8 @@ impl Refusal {
         SendingBarred,
         BadRatchetKid,
         TooManySteps,
+        GroupPartTooLarge,
+        GroupKidTooLong,
     ];
 
     /// The number of the refusal in the C interface.
@@ -136,6 +144,10 @@ impl fmt::Display for Refusal {
             SendingBarred => "no key is added for sending with suite 3: its tags have 4 bytes",
             BadRatchetKid => "a step has 1 to 16 bits, and the key number must fit in 64",
             TooManySteps => "a key is walked at most 64 steps at once",
+            GroupPartTooLarge => "the index or the bits of the epoch do not fit their width",
+            GroupKidTooLong => {
+                "the widths are above 64 together, or the key number does not fit in 64 bits"
+            }
         })
     }
 }

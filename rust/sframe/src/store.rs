@@ -1,7 +1,7 @@
 //! The store of keys in lent bytes.
 
 use crate::limits::{frame_room, MAX_PLAINTEXT};
-use crate::{raw, Kid, Metadata, Place, Record, Refusal, StoreView, Suite};
+use crate::{raw, EpochBits, Kid, Metadata, Place, Record, Refusal, StoreView, Suite};
 use std::fmt;
 
 /// What a key is added for.
@@ -185,6 +185,43 @@ impl<'a> Store<'a> {
     /// As [`remove`](Self::remove); the record is looked for at `place` first.
     pub fn remove_near(&mut self, kid: Kid, place: Place) -> Result<(), Refusal> {
         Refusal::check(raw::remove_near(self.0, kid.0, place.0), ())
+    }
+
+    /// Removes exactly the receiving keys whose key number has these low bits, as
+    /// [`remove`](Self::remove) does; there may be none. Sending keys and retired
+    /// records stay as they are.
+    ///
+    /// Refusals, the first that holds: [`StoreNotSound`](Refusal::StoreNotSound),
+    /// [`GroupKidTooLong`](Refusal::GroupKidTooLong) where the width is above 64,
+    /// [`GroupPartTooLarge`](Refusal::GroupPartTooLarge) where the bits need more
+    /// than the width.
+    ///
+    /// ```
+    /// use sframe::{group_kid, EpochBits, GroupParts, GroupWidths};
+    /// use sframe::{Kid, Refusal, Role, Store, Suite, RECORD};
+    ///
+    /// let widths = GroupWidths { index: 6, epoch: 4 };
+    /// let kid = |index, epoch| group_kid(GroupParts { context: 0, index, epoch }, widths);
+    /// let mut bytes = [0; 4 * RECORD];
+    /// let mut store = Store::make(&mut bytes)?;
+    /// let suite = Suite::Aes128GcmSha256_128;
+    /// let (epoch_14, epoch_15) = ([14; 16], [15; 16]); // their base keys
+    /// store.add(Role::Sending, suite, kid(5, 14)?, &epoch_14)?;
+    /// store.add(Role::Receiving, suite, kid(3, 14)?, &epoch_14)?;
+    /// store.add(Role::Receiving, suite, kid(3, 15)?, &epoch_15)?;
+    ///
+    /// // Epoch 30 has the low bits of epoch 14. Our own key is still there.
+    /// store.change_epoch(EpochBits { width: widths.epoch, bits: 30 % 16 })?;
+    /// let left: Vec<Kid> = store.records()?.iter().map(|record| record.kid).collect();
+    /// assert_eq!(left, [kid(3, 15)?, kid(5, 14)?]);
+    /// let epoch_30 = [30; 16];
+    /// store.add(Role::Receiving, suite, kid(3, 30)?, &epoch_30)?;
+    /// let own = store.add(Role::Sending, suite, kid(5, 30)?, &epoch_30);
+    /// assert_eq!(own, Err(Refusal::KidHeld));
+    /// # Ok::<(), Refusal>(())
+    /// ```
+    pub fn change_epoch(&mut self, epoch: EpochBits) -> Result<(), Refusal> {
+        Refusal::check(raw::change_epoch(self.0, epoch.width, epoch.bits), ())
     }
 
     /// As [`StoreView::find`].

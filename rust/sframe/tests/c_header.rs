@@ -38,6 +38,8 @@ fn refusals() {
         "SENDING_BARRED",
         "RATCHET_KID_INVALID",
         "TOO_MANY_STEPS",
+        "GROUP_PART_TOO_LARGE",
+        "GROUP_KID_TOO_LONG",
     ];
     assert_eq!(constants["SFRAME_DONE"], 0);
     assert_eq!(names.len(), Refusal::ALL.len());

@@ -3,9 +3,11 @@
 use reference::record::{Record, State as ReferenceState};
 use reference::suites::Suite as ReferenceSuite;
 use sframe::{
-    frame_room, raw, Ctr, Kid, Metadata, Place, Refusal, Role, State, Store, StoreView, Suite,
-    Window, MAX_COUNTER, MAX_METADATA, MAX_PLAINTEXT, MAX_RECORDS, RECORD,
+    frame_room, group_kid, group_parts, raw, Ctr, EpochBits, GroupParts, GroupWidths, Kid,
+    Metadata, Place, Refusal, Role, State, Store, StoreView, Suite, Window, MAX_COUNTER,
+    MAX_METADATA, MAX_PLAINTEXT, MAX_RECORDS, RECORD,
 };
+use testkit::group_vectors;
 
 const KID: Kid = Kid(200);
 const BASE_KEY: [u8; 16] = [7; 16];
@@ -32,7 +34,7 @@ fn put_sender(bytes: &mut [u8], suite: Suite) {
 
 #[test]
 fn numbers_and_names_of_refusals() {
-    let numbers = (1..=15).chain([17, 20, 21]);
+    let numbers = (1..=15).chain([17]).chain(20..=23);
     assert_eq!(numbers.clone().count(), Refusal::ALL.len());
     for (number, refusal) in numbers.zip(Refusal::ALL) {
         assert_eq!(refusal.number(), number);
@@ -40,7 +42,7 @@ fn numbers_and_names_of_refusals() {
         let same = |other: &&Refusal| other.to_string() == refusal.to_string();
         assert_eq!(Refusal::ALL.iter().filter(same).count(), 1);
     }
-    for number in [0, 16, 18, 19, 22, 256 + 1, u32::MAX] {
+    for number in [0, 16, 18, 19, 24, 256 + 1, u32::MAX] {
         assert_eq!(Refusal::from_number(number), None);
     }
 }
@@ -255,6 +257,60 @@ fn places() {
         let nothing = StoreView::over(&[]);
         assert_eq!(nothing.find(KID), Err(Refusal::StoreNotSound));
     }
+}
+
+/// Key numbers of a group, typed and raw.
+#[test]
+fn groups() {
+    let widths = GroupWidths { index: 6, epoch: 4 };
+    for case in group_vectors() {
+        let (context, index, epoch) = (case.context, case.index, case.epoch);
+        let parts = GroupParts {
+            context,
+            index,
+            epoch,
+        };
+        let kid = Kid(case.kid);
+        assert_eq!(group_kid(parts, widths), Ok(kid));
+        assert_eq!(raw::group_kid(context, index, epoch, 6, 4).kid, case.kid);
+        let epoch = epoch % 16;
+        assert_eq!(group_parts(kid, widths), Ok(GroupParts { epoch, ..parts }));
+
+        let nobody = GroupParts { index: 64, ..parts };
+        assert_eq!(group_kid(nobody, widths), Err(Refusal::GroupPartTooLarge));
+        for (index, epoch) in [(61, 4), (u64::MAX, u64::MAX)] {
+            let widths = GroupWidths { index, epoch };
+            assert_eq!(group_kid(nobody, widths), Err(Refusal::GroupKidTooLong));
+            assert_eq!(group_parts(kid, widths), Err(Refusal::GroupKidTooLong));
+            let raw = raw::group_parts(case.kid, index, epoch);
+            assert_eq!((raw.context, raw.index, raw.epoch), (0, 0, 0));
+        }
+    }
+}
+
+#[test]
+fn a_change_of_epoch() {
+    let (mut ward, mut doctor) = stores(Suite::ALL[0]);
+    let epoch = |width, bits| EpochBits { width, bits };
+    for bytes in [&mut ward, &mut doctor] {
+        let before = *bytes;
+        for (other, answer) in [
+            (epoch(4, 7), Ok(())),
+            (epoch(4, 16), Err(Refusal::GroupPartTooLarge)),
+            (epoch(65, 8), Err(Refusal::GroupKidTooLong)),
+        ] {
+            assert_eq!(Store::over(bytes).change_epoch(other), answer);
+            assert_eq!(*bytes, before);
+        }
+        // The key number is 200, which is 12 * 16 + 8.
+        let sending = bytes[0] == 1;
+        assert_eq!(Store::over(bytes).change_epoch(epoch(4, 8)), Ok(()));
+        assert_eq!(*bytes == before, sending);
+        let left = Store::over(bytes).records().unwrap().len();
+        assert_eq!(left, usize::from(sending));
+    }
+    let answer = Store::over(&mut []).change_epoch(epoch(65, 8));
+    assert_eq!(answer, Err(Refusal::StoreNotSound));
 }
 
 /// Debug output goes to logs, where no key belongs.

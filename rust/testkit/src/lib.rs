@@ -13,4 +13,6 @@ pub use combinations::combinations;
 pub use generator::Generator;
 pub use hex::{hex, number};
 pub use room::{check_filled, check_output, check_refused, PATTERN};
-pub use vectors::{aead_vectors, header_vectors, sframe_vectors, Case, HeaderVector};
+pub use vectors::{
+    aead_vectors, group_vectors, header_vectors, sframe_vectors, Case, GroupVector, HeaderVector,
+};

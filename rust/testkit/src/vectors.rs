@@ -1,5 +1,6 @@
 //! The published vectors of SFrame: headers from the table that the layer's own
-//! program runs, the others from the tables in `reference/data`.
+//! program runs, key numbers of a group from a figure, the others from the tables in
+//! `reference/data`.
 
 use crate::{hex, number};
 use std::collections::HashMap;
@@ -31,6 +32,42 @@ pub fn header_vectors() -> Vec<HeaderVector> {
         .collect();
     assert_eq!(cases.len(), 289);
     cases
+}
+
+/// The key number of one member of a group.
+pub struct GroupVector {
+    /// The epoch.
+    pub epoch: u64,
+    /// The member's index.
+    pub index: u64,
+    /// The context.
+    pub context: u64,
+    /// The key number.
+    pub kid: u64,
+}
+
+/// The figure of RFC 9605 section 5.2, in which S is 6 and E is 4: epoch, index,
+/// context and key number.
+const GROUP_FIGURE: [[u64; 4]; 9] = [
+    [14, 3, 0, 0x3e],
+    [14, 7, 0, 0x7e],
+    [14, 20, 0, 0x14e],
+    [15, 3, 0, 0x3f],
+    [15, 5, 0, 0x5f],
+    [16, 2, 2, 0x820],
+    [16, 2, 3, 0xc20],
+    [17, 33, 0, 0x211],
+    [17, 51, 0, 0x331],
+];
+
+/// The nine key numbers of that figure.
+pub fn group_vectors() -> [GroupVector; 9] {
+    GROUP_FIGURE.map(|[epoch, index, context, kid]| GroupVector {
+        epoch,
+        index,
+        context,
+        kid,
+    })
 }
 
 /// One case of named values.

@@ -2,9 +2,10 @@
  * Makes the calls that arrive on standard input and answers on standard output, so that a library built for another
  * processor can be compared from outside. src/layer.rs is the other end. Numbers are little-endian.
  *
- *     call     1 byte, which one; 3 numbers of 8 bytes; 4 lengths of 8 bytes; then so many bytes of each of
+ *     call     1 byte, which one; 5 numbers of 8 bytes; 4 lengths of 8 bytes; then so many bytes of each of
  *              store, first, second and room
- *     answer   4 bytes, the call's number; 5 numbers of 8 bytes: length, KID, CTR, count, place; then store and room
+ *     answer   4 bytes, the call's number; 8 numbers of 8 bytes: length, KID, CTR, count, place, context, index, epoch; then
+ *              store and room
  *
  * Ends with status 0 where the input ends between two calls, and says on standard error how many there were.
  */
@@ -17,7 +18,7 @@
 
 /* Margins around what is lent, which a call must leave alone. The first is odd, so that what is lent starts at no even
  * address. */
-enum { MARGIN = 13, PATTERN = 0xa5, STRINGS = 4, NUMBERS = 3 };
+enum { MARGIN = 13, PATTERN = 0xa5, STRINGS = 4, NUMBERS = 5 };
 enum { STORE, FIRST, SECOND, ROOM };
 
 /* More than any string of the comparison. */
@@ -34,6 +35,7 @@ struct answer {
     size_t length;
     uint64_t kid, ctr, count;
     size_t place;
+    uint64_t context, index, epoch;
 };
 
 static void stop(const char *why)
@@ -100,7 +102,7 @@ static void take_back(uint8_t *lent, size_t length)
 
 static struct answer make(int which, struct call *c)
 {
-    struct answer a = { 0, 0, 0, 0, 0, 0 };
+    struct answer a = { 0, 0, 0, 0, 0, 0, 0, 0, 0 };
     const uint64_t *n = c->number;
     const size_t *l = c->length;
     uint8_t *const *b = c->lent;
@@ -157,6 +159,15 @@ static struct answer make(int which, struct call *c)
     case 16:
         a.number = sframe_open_near(b[STORE], l[STORE], n[0], b[FIRST], l[FIRST], b[SECOND], l[SECOND], b[ROOM], l[ROOM], &a.length);
         break;
+    case 17:
+        a.number = sframe_group_kid(n[0], n[1], n[2], n[3], n[4], &a.kid);
+        break;
+    case 18:
+        a.number = sframe_group_parts(n[0], n[1], n[2], &a.context, &a.index, &a.epoch);
+        break;
+    case 19:
+        a.number = sframe_change_epoch(b[STORE], l[STORE], n[0], n[1]);
+        break;
     default:
         stop("there is no such call");
     }
@@ -191,6 +202,9 @@ int main(void)
         give_number(a.ctr, 8);
         give_number(a.count, 8);
         give_number(a.place, 8);
+        give_number(a.context, 8);
+        give_number(a.index, 8);
+        give_number(a.epoch, 8);
         give(c.lent[STORE], c.length[STORE]);
         give(c.lent[ROOM], c.length[ROOM]);
         if (fflush(stdout) != 0) {

@@ -21,7 +21,7 @@ static uint8_t sending[SFRAME_STORE_SIZE(RECORDS)], receiving[SFRAME_STORE_SIZE(
 static uint8_t plaintext[SFRAME_MAX_PLAINTEXT], metadata[SFRAME_MAX_METADATA], opened[SFRAME_MAX_PLAINTEXT];
 static uint8_t frame[SFRAME_FRAME_ROOM(SFRAME_MAX_PLAINTEXT)], key[SFRAME_MAX_BASE_KEY];
 static size_t frame_len, length, place;
-static uint64_t suite, kid, ctr, count;
+static uint64_t suite, kid, ctr, count, context, member, epoch;
 static uint32_t answer;
 
 static void nothing(void) { answer = 0; }
@@ -64,6 +64,9 @@ static void write_header(void) { answer = sframe_write_header(UINT64_MAX, UINT64
 static void write_header_at(void) { answer = sframe_write_header_at(UINT64_MAX, UINT64_MAX, frame, sizeof frame, 1, &length); }
 static void read_header(void) { answer = sframe_read_header(frame, SFRAME_MAX_HEADER, &kid, &ctr, &length); }
 static void ratchet(void) { answer = sframe_ratchet(suite, key, sizeof key, SFRAME_MAX_STEPS, opened, sizeof opened, &length); }
+static void group_kid(void) { answer = sframe_group_kid(1, 2, 3, 10, 16, &kid); }
+static void group_parts(void) { answer = sframe_group_parts(UINT64_MAX, 10, 16, &context, &member, &epoch); }
+static void change_epoch(void) { answer = sframe_change_epoch(receiving, sizeof receiving, 16, RECORDS); }
 static void ratchet_kid(void) { answer = sframe_ratchet_kid(1, 2, SFRAME_MAX_RATCHET_BITS, &kid); }
 
 /* How much of the stack a call has written to. */
@@ -105,11 +108,15 @@ static const struct {
     { "sframe_report", report },
     { "sframe_remove", remove_key },
     { "sframe_remove_near", remove_near },
+    { NULL, add_receiving },
+    { "sframe_change_epoch", change_epoch },
     { "sframe_write_header_at", write_header_at },
     { "sframe_write_header", write_header },
     { "sframe_read_header", read_header },
     { "sframe_ratchet", ratchet },
     { "sframe_ratchet_kid", ratchet_kid },
+    { "sframe_group_kid", group_kid },
+    { "sframe_group_parts", group_parts },
 };
 
 int main(void)

@@ -26,6 +26,10 @@ pub enum Call<'a> {
     Remove {
         kid: u64,
     },
+    ChangeEpoch {
+        width: u64,
+        bits: u64,
+    },
     Seal {
         kid: u64,
         metadata: &'a [u8],
@@ -217,6 +221,7 @@ fn on_layer(store: &[u8], call: Call, way: Way) -> Outcome {
             Way::Near(place) => layer::remove_near(bytes, kid, place),
             _ => layer::remove(bytes, kid),
         }),
+        Call::ChangeEpoch { width, bits } => done(layer::change_epoch(bytes, width, bits)),
         Call::Seal {
             kid,
             metadata,
@@ -259,7 +264,8 @@ fn on_layer(store: &[u8], call: Call, way: Way) -> Outcome {
 }
 
 fn on_reference(store: &[u8], call: Call) -> Outcome {
-    use reference::store::{add, find, make, open, remove, report, seal_at, Role as ReferenceRole};
+    use reference::store::Role as ReferenceRole;
+    use reference::store::{add, change_epoch, find, make, open, remove, report, seal_at};
     let mut store = store.to_vec();
     let mut room = vec![PATTERN; call.room()];
     let (mut count, mut place) = (0, 0);
@@ -278,6 +284,7 @@ fn on_reference(store: &[u8], call: Call) -> Outcome {
             add(&mut store, role, suite, kid, base_key)
         }
         Call::Remove { kid } => remove(&mut store, kid),
+        Call::ChangeEpoch { width, bits } => change_epoch(&mut store, width, bits),
         Call::Seal {
             kid,
             metadata,
@@ -343,6 +350,9 @@ impl fmt::Display for Call<'_> {
                 base_key.len()
             ),
             Call::Remove { kid } => write!(f, "Remove, KID {kid:#x}"),
+            Call::ChangeEpoch { width, bits } => {
+                write!(f, "Change of epoch, low {width} bits {bits:#x}")
+            }
             Call::Seal {
                 kid,
                 metadata,

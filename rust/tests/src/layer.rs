@@ -2,7 +2,7 @@
 //! command, a program that has another build of it linked (`c/driver.c`). Each
 //! thread starts that program once, and makes its calls by it.
 
-use sframe::raw::{self, Found, RatchetKid, Read as ReadHeader, Report, Written};
+use sframe::raw::{self, Found, GroupKid, Parts, RatchetKid, Read as ReadHeader, Report, Written};
 use std::cell::RefCell;
 use std::env;
 use std::io::{Read, Write};
@@ -28,7 +28,15 @@ enum Which {
     Find,
     SealNear,
     OpenNear,
+    GroupKid,
+    GroupParts,
+    ChangeEpoch,
 }
+
+/// The most numbers that a call is given.
+const NUMBERS: usize = 5;
+/// The bytes that a driver answers before store and room.
+const HEAD: usize = 4 + 8 * 8;
 
 /// What a driver answers beside store and room.
 struct Answer {
@@ -38,6 +46,9 @@ struct Answer {
     ctr: u64,
     count: u64,
     place: usize,
+    context: u64,
+    index: u64,
+    epoch: u64,
 }
 
 impl Answer {
@@ -79,7 +90,7 @@ impl Driver {
     fn call(
         &mut self,
         which: Which,
-        numbers: [u64; 3],
+        numbers: &[u64],
         store: &mut [u8],
         first: &[u8],
         second: &[u8],
@@ -87,7 +98,8 @@ impl Driver {
     ) -> Answer {
         let strings: [&[u8]; 4] = [store, first, second, room];
         let mut call = vec![which as u8];
-        for number in numbers {
+        for place in 0..NUMBERS {
+            let number = numbers.get(place).copied().unwrap_or(0);
             call.extend(number.to_le_bytes());
         }
         for string in strings {
@@ -97,7 +109,7 @@ impl Driver {
         let input = self.input.as_mut().expect("the driver has not ended");
         input.write_all(&call).expect("the driver reads");
 
-        let mut head = [0; 44];
+        let mut head = [0; HEAD];
         let mut read = |bytes: &mut [u8]| self.output.read_exact(bytes).expect("it answers");
         read(&mut head);
         read(store);
@@ -110,6 +122,9 @@ impl Driver {
             ctr: number(20),
             count: number(28),
             place: number(36) as usize,
+            context: number(44),
+            index: number(52),
+            epoch: number(60),
         }
     }
 }
@@ -129,7 +144,7 @@ thread_local! {
 /// Makes a call by the driver, if there is one.
 fn driven(
     which: Which,
-    numbers: [u64; 3],
+    numbers: &[u64],
     store: &mut [u8],
     strings: [&[u8]; 2],
     room: &mut [u8],
@@ -142,7 +157,7 @@ fn driven(
 }
 
 pub fn make(store: &mut [u8]) -> u32 {
-    match driven(Which::Make, [0; 3], store, [&[]; 2], &mut []) {
+    match driven(Which::Make, &[], store, [&[]; 2], &mut []) {
         Some(answer) => answer.number,
         None => raw::make(store),
     }
@@ -150,14 +165,14 @@ pub fn make(store: &mut [u8]) -> u32 {
 
 pub fn add_sending(store: &mut [u8], kid: u64, suite: u64, base_key: &[u8]) -> u32 {
     let strings = [base_key, &[]];
-    match driven(Which::AddSending, [kid, suite, 0], store, strings, &mut []) {
+    match driven(Which::AddSending, &[kid, suite], store, strings, &mut []) {
         Some(answer) => answer.number,
         None => raw::add_sending(store, kid, suite, base_key),
     }
 }
 
 pub fn add_receiving(store: &mut [u8], kid: u64, suite: u64, base_key: &[u8]) -> u32 {
-    let (numbers, strings) = ([kid, suite, 0], [base_key, &[]]);
+    let (numbers, strings) = (&[kid, suite], [base_key, &[]]);
     match driven(Which::AddReceiving, numbers, store, strings, &mut []) {
         Some(answer) => answer.number,
         None => raw::add_receiving(store, kid, suite, base_key),
@@ -165,23 +180,31 @@ pub fn add_receiving(store: &mut [u8], kid: u64, suite: u64, base_key: &[u8]) ->
 }
 
 pub fn remove(store: &mut [u8], kid: u64) -> u32 {
-    match driven(Which::Remove, [kid, 0, 0], store, [&[]; 2], &mut []) {
+    match driven(Which::Remove, &[kid], store, [&[]; 2], &mut []) {
         Some(answer) => answer.number,
         None => raw::remove(store, kid),
     }
 }
 
 pub fn remove_near(store: &mut [u8], kid: u64, place: usize) -> u32 {
-    let numbers = [kid, place as u64, 0];
+    let numbers = &[kid, place as u64];
     match driven(Which::RemoveNear, numbers, store, [&[]; 2], &mut []) {
         Some(answer) => answer.number,
         None => raw::remove_near(store, kid, place),
     }
 }
 
+pub fn change_epoch(store: &mut [u8], epoch_width: u64, epoch_bits: u64) -> u32 {
+    let numbers = &[epoch_width, epoch_bits];
+    match driven(Which::ChangeEpoch, numbers, store, [&[]; 2], &mut []) {
+        Some(answer) => answer.number,
+        None => raw::change_epoch(store, epoch_width, epoch_bits),
+    }
+}
+
 /// The store that the driver's call left is compared too.
 pub fn find(store: &mut [u8], kid: u64) -> Found {
-    match driven(Which::Find, [kid, 0, 0], store, [&[]; 2], &mut []) {
+    match driven(Which::Find, &[kid], store, [&[]; 2], &mut []) {
         Some(answer) => Found {
             number: answer.number,
             place: answer.place,
@@ -198,7 +221,7 @@ pub fn seal(
     room: &mut [u8],
 ) -> Written {
     let strings = [metadata, plaintext];
-    match driven(Which::Seal, [kid, 0, 0], store, strings, room) {
+    match driven(Which::Seal, &[kid], store, strings, room) {
         Some(answer) => answer.written(),
         None => raw::seal(store, kid, metadata, plaintext, room),
     }
@@ -212,7 +235,7 @@ pub fn seal_at(
     room: &mut [u8],
     offset: usize,
 ) -> Written {
-    let (numbers, strings) = ([kid, offset as u64, 0], [metadata, plaintext]);
+    let (numbers, strings) = (&[kid, offset as u64], [metadata, plaintext]);
     match driven(Which::SealAt, numbers, store, strings, room) {
         Some(answer) => answer.written(),
         None => raw::seal_at(store, kid, metadata, plaintext, room, offset),
@@ -228,7 +251,7 @@ pub fn seal_near(
     room: &mut [u8],
     offset: usize,
 ) -> Written {
-    let numbers = [kid, place as u64, offset as u64];
+    let numbers = &[kid, place as u64, offset as u64];
     match driven(Which::SealNear, numbers, store, [metadata, plaintext], room) {
         Some(answer) => answer.written(),
         None => raw::seal_near(store, kid, place, metadata, plaintext, room, offset),
@@ -236,7 +259,7 @@ pub fn seal_near(
 }
 
 pub fn open(store: &mut [u8], frame: &[u8], metadata: &[u8], room: &mut [u8]) -> Written {
-    match driven(Which::Open, [0; 3], store, [frame, metadata], room) {
+    match driven(Which::Open, &[], store, [frame, metadata], room) {
         Some(answer) => answer.written(),
         None => raw::open(store, frame, metadata, room),
     }
@@ -249,7 +272,7 @@ pub fn open_near(
     metadata: &[u8],
     room: &mut [u8],
 ) -> Written {
-    let numbers = [place as u64, 0, 0];
+    let numbers = &[place as u64];
     match driven(Which::OpenNear, numbers, store, [frame, metadata], room) {
         Some(answer) => answer.written(),
         None => raw::open_near(store, place, frame, metadata, room),
@@ -258,7 +281,7 @@ pub fn open_near(
 
 /// The store that the driver's call left is compared too.
 pub fn report(store: &mut [u8], kid: u64) -> Report {
-    match driven(Which::Report, [kid, 0, 0], store, [&[]; 2], &mut []) {
+    match driven(Which::Report, &[kid], store, [&[]; 2], &mut []) {
         Some(answer) => Report {
             number: answer.number,
             count: answer.count,
@@ -268,14 +291,14 @@ pub fn report(store: &mut [u8], kid: u64) -> Report {
 }
 
 pub fn write_header(kid: u64, ctr: u64, out: &mut [u8]) -> Written {
-    match driven(Which::WriteHeader, [kid, ctr, 0], &mut [], [&[]; 2], out) {
+    match driven(Which::WriteHeader, &[kid, ctr], &mut [], [&[]; 2], out) {
         Some(answer) => answer.written(),
         None => raw::write_header(kid, ctr, out),
     }
 }
 
 pub fn write_header_at(kid: u64, ctr: u64, out: &mut [u8], offset: usize) -> Written {
-    let numbers = [kid, ctr, offset as u64];
+    let numbers = &[kid, ctr, offset as u64];
     match driven(Which::WriteHeaderAt, numbers, &mut [], [&[]; 2], out) {
         Some(answer) => answer.written(),
         None => raw::write_header_at(kid, ctr, out, offset),
@@ -283,7 +306,7 @@ pub fn write_header_at(kid: u64, ctr: u64, out: &mut [u8], offset: usize) -> Wri
 }
 
 pub fn read_header(bytes: &[u8]) -> ReadHeader {
-    match driven(Which::ReadHeader, [0; 3], &mut [], [bytes, &[]], &mut []) {
+    match driven(Which::ReadHeader, &[], &mut [], [bytes, &[]], &mut []) {
         Some(answer) => ReadHeader {
             number: answer.number,
             kid: answer.kid,
@@ -295,7 +318,7 @@ pub fn read_header(bytes: &[u8]) -> ReadHeader {
 }
 
 pub fn ratchet(suite: u64, base_key: &[u8], steps: u64, out: &mut [u8]) -> Written {
-    let (numbers, strings) = ([suite, steps, 0], [base_key, &[]]);
+    let (numbers, strings) = (&[suite, steps], [base_key, &[]]);
     match driven(Which::Ratchet, numbers, &mut [], strings, out) {
         Some(answer) => answer.written(),
         None => raw::ratchet(suite, base_key, steps, out),
@@ -303,12 +326,36 @@ pub fn ratchet(suite: u64, base_key: &[u8], steps: u64, out: &mut [u8]) -> Writt
 }
 
 pub fn ratchet_kid(generation: u64, step: u64, bits: u64) -> RatchetKid {
-    let numbers = [generation, step, bits];
+    let numbers = &[generation, step, bits];
     match driven(Which::RatchetKid, numbers, &mut [], [&[]; 2], &mut []) {
         Some(answer) => RatchetKid {
             number: answer.number,
             kid: answer.kid,
         },
         None => raw::ratchet_kid(generation, step, bits),
+    }
+}
+
+pub fn group_kid(context: u64, index: u64, epoch: u64, s: u64, e: u64) -> GroupKid {
+    let numbers = &[context, index, epoch, s, e];
+    match driven(Which::GroupKid, numbers, &mut [], [&[]; 2], &mut []) {
+        Some(answer) => GroupKid {
+            number: answer.number,
+            kid: answer.kid,
+        },
+        None => raw::group_kid(context, index, epoch, s, e),
+    }
+}
+
+pub fn group_parts(kid: u64, s: u64, e: u64) -> Parts {
+    let numbers = &[kid, s, e];
+    match driven(Which::GroupParts, numbers, &mut [], [&[]; 2], &mut []) {
+        Some(answer) => Parts {
+            number: answer.number,
+            context: answer.context,
+            index: answer.index,
+            epoch: answer.epoch,
+        },
+        None => raw::group_parts(kid, s, e),
     }
 }

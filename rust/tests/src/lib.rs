@@ -4,6 +4,7 @@
 #![forbid(unsafe_code)]
 
 mod call;
+mod group;
 mod header;
 mod layer;
 mod lent;
@@ -11,6 +12,7 @@ mod ratchet;
 mod stores;
 
 pub use call::{compare, compare_near, Call, Outcome};
+pub use group::{compare_group_kid, compare_group_parts};
 pub use header::{compare_read_header, compare_write_header, compare_write_header_at, forms};
 pub use ratchet::{compare_kid, compare_walk};
 pub use stores::{
@@ -40,4 +42,6 @@ pub mod number {
     pub const SENDING_BARRED: u32 = 17;
     pub const BAD_RATCHET_KID: u32 = 20;
     pub const TOO_MANY_STEPS: u32 = 21;
+    pub const GROUP_PART_TOO_LARGE: u32 = 22;
+    pub const GROUP_KID_TOO_LONG: u32 = 23;
 }

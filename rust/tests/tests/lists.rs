@@ -74,6 +74,7 @@ fn any_sound_store() {
     assert!(tally.answered("Open", ALREADY_OPENED) > 1_000);
     assert!(tally.answered("Open", TOO_OLD) > 300);
     assert!(tally.answered("Report", DONE) > 300);
+    assert!(tally.answered("ChangeEpoch", DONE) > 300);
 }
 
 /// Stores damaged at random: bits, bytes, records moved or doubled, lengths.
@@ -93,7 +94,16 @@ fn any_damaged_store() {
         tally.count(call, compare(&store, call).number);
     }
     println!("{tally}");
-    for call in ["Make", "Add", "Remove", "Seal", "Open", "Report", "Find"] {
+    for call in [
+        "Make",
+        "Add",
+        "Remove",
+        "ChangeEpoch",
+        "Seal",
+        "Open",
+        "Report",
+        "Find",
+    ] {
         assert!(tally.answered(call, STORE_NOT_SOUND) > 200, "{call}");
     }
 }

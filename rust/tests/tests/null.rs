@@ -37,9 +37,10 @@ fn stores() {
             sframe_remove(null_mut(), 0, 1),
             sframe_remove_near(null_mut(), 0, 1, 0),
             sframe_remove_near(null_mut(), 0, 1, usize::MAX),
+            sframe_change_epoch(null_mut(), 0, 65, 1),
         ]
     };
-    assert_eq!(numbers, [STORE_NOT_SOUND; 6]);
+    assert_eq!(numbers, [STORE_NOT_SOUND; 7]);
     let mut count = 1;
     // SAFETY: as above, and `count` is a local.
     let number = unsafe { sframe_report(null(), 0, 1, &mut count) };

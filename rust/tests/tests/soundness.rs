@@ -45,7 +45,7 @@ fn sound(suite: Suite) -> Vec<u8> {
 }
 
 /// Every call that uses a store; each would be done on the sound store.
-fn calls<'a>(opened: &'a [u8]) -> [Call<'a>; 8] {
+fn calls<'a>(opened: &'a [u8]) -> [Call<'a>; 9] {
     let add = |role, kid| Call::Add {
         role,
         suite: 1,
@@ -57,6 +57,10 @@ fn calls<'a>(opened: &'a [u8]) -> [Call<'a>; 8] {
         add(Role::Receiving, 150),
         Call::Remove { kid: KIDS[0] },
         Call::Remove { kid: KIDS[1] },
+        Call::ChangeEpoch {
+            width: 4,
+            bits: KIDS[1] % 16,
+        },
         Call::Seal {
             kid: KIDS[0],
             metadata: b"m",

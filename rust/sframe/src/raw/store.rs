@@ -52,6 +52,12 @@ pub fn remove_near(store: &mut [u8], kid: u64, place: usize) -> u32 {
     unsafe { ffi::sframe_remove_near(store.as_mut_ptr(), store.len(), kid, place) }
 }
 
+/// Removes the receiving keys of an epoch, by the low bits of their key numbers.
+pub fn change_epoch(store: &mut [u8], epoch_width: u64, epoch_bits: u64) -> u32 {
+    // SAFETY: as in `remove`.
+    unsafe { ffi::sframe_change_epoch(store.as_mut_ptr(), store.len(), epoch_width, epoch_bits) }
+}
+
 /// What a search for a record answers.
 #[derive(Clone, Copy, Debug, PartialEq, Eq)]
 pub struct Found {

@@ -55,6 +55,7 @@ fn store_not_sound() {
             format!("seal {store} --kid 200 --in picture"),
             format!("open {store} --in frame"),
             format!("report {store} --kid 200"),
+            format!("change-epoch {store} --epoch-width 65 --epoch-bits 1"),
         ] {
             refused(&folder, &line, Refusal::StoreNotSound);
         }
@@ -286,5 +287,39 @@ fn ratchet() {
         "--generation 0x1000000000000000 --step 0 --bits 4",
     ] {
         refused(&folder, &format!("kid {line}"), Refusal::BadRatchetKid);
+    }
+}
+
+#[test]
+fn groups() {
+    let folder = folder("refused-22-23");
+    let member = |widths: &str, index: u64, context: u64| {
+        format!("group-kid --context {context} --index {index} --epoch 14 {widths}")
+    };
+    let (good, wide) = (
+        "--index-width 6 --epoch-width 4",
+        "--index-width 60 --epoch-width 5",
+    );
+    for (line, refusal) in [
+        (member(wide, u64::MAX, 1), Refusal::GroupKidTooLong),
+        (member(good, 64, 1 << 54), Refusal::GroupPartTooLarge),
+        (member(good, 63, 1 << 54), Refusal::GroupKidTooLong),
+        (
+            format!("group-parts --kid 0 {wide}"),
+            Refusal::GroupKidTooLong,
+        ),
+    ] {
+        refused(&folder, &line, refusal);
+    }
+    for (width, bits, refusal) in [
+        (65, 0, Refusal::GroupKidTooLong),
+        (u64::MAX, u64::MAX, Refusal::GroupKidTooLong),
+        (0, 1, Refusal::GroupPartTooLarge),
+        (4, 16, Refusal::GroupPartTooLarge),
+    ] {
+        // Makes the lock's file, which stays.
+        folder.done("change-epoch doctor --epoch-width 1 --epoch-bits 1");
+        let line = format!("change-epoch doctor --epoch-width {width} --epoch-bits {bits}");
+        refused(&folder, &line, refusal);
     }
 }

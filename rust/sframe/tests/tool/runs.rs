@@ -195,15 +195,54 @@ fn keys_by_rising_number() {
             "add store --receiving --kid {kid} --suite 4 --key key"
         ));
     }
-    let kids = || {
-        let list = String::from_utf8(folder.done("list store")).unwrap();
-        let rows = list.lines().filter(|line| line.starts_with("receiving"));
-        let kid = |row: &str| row.split_whitespace().nth(3).unwrap().to_string();
-        rows.map(kid).collect::<Vec<_>>().join(" ")
-    };
-    assert_eq!(kids(), "0 56 200 18446744073709551615");
+    assert_eq!(kids(&folder, "store"), "0 56 200 18446744073709551615");
     folder.done("remove store --kid 56");
-    assert_eq!(kids(), "0 200 18446744073709551615");
+    assert_eq!(kids(&folder, "store"), "0 200 18446744073709551615");
+}
+
+/// The key numbers that a store lists.
+fn kids(folder: &Folder, store: &str) -> String {
+    let list = String::from_utf8(folder.done(&format!("list {store}"))).unwrap();
+    let rows = list.lines().filter(|line| line.contains("AES_"));
+    let kid = |row: &str| row.split_whitespace().nth(3).unwrap().to_string();
+    rows.map(kid).collect::<Vec<_>>().join(" ")
+}
+
+/// The receiving keys of an epoch go. When it comes round again, the number of a
+/// sender is still taken, and another context gives it a new one.
+#[test]
+fn a_change_of_epoch() {
+    let folder = Folder::new("epoch");
+    folder.write("key", &[7; 16]);
+    folder.done("make store --keys 5");
+    let kid = |context: u64, index: u64, epoch: u64| {
+        let line = format!(
+            "group-kid --context {context} --index {index} --epoch {epoch} \
+             --index-width 6 --epoch-width 4"
+        );
+        let kid = String::from_utf8(folder.done(&line)).unwrap();
+        kid.trim().to_string()
+    };
+    let add = |role: &str, kid: &str| format!("add store --{role} --kid {kid} --suite 4 --key key");
+    assert_eq!(kid(3, 2, 16), 0xc20.to_string());
+    let parts = folder.done("group-parts --kid 0xc20 --index-width 6 --epoch-width 4");
+    assert_eq!(parts, b"context 3, index 2, epoch bits 0\n");
+
+    for (index, epoch) in [(3, 14), (7, 14), (3, 15)] {
+        folder.done(&add("receiving", &kid(0, index, epoch)));
+    }
+    folder.done(&add("sending", &kid(0, 20, 14)));
+    assert_eq!(kids(&folder, "store"), "62 63 126 334");
+    folder.done("change-epoch store --epoch-width 4 --epoch-bits 13");
+    assert_eq!(kids(&folder, "store"), "62 63 126 334");
+    folder.done("change-epoch store --epoch-width 4 --epoch-bits 14");
+    assert_eq!(kids(&folder, "store"), "63 334");
+
+    folder.done(&add("receiving", &kid(0, 3, 30)));
+    folder.done("remove store --kid 334");
+    folder.fails(&add("sending", &kid(0, 20, 30)), 4);
+    folder.done(&add("sending", &kid(1, 20, 30)));
+    assert_eq!(kids(&folder, "store"), "62 63 334 1358");
 }
 
 #[test]
@@ -211,7 +250,19 @@ fn help_names_every_command() {
     let folder = Folder::new("help");
     let help = String::from_utf8(folder.done("--help")).unwrap();
     for command in [
-        "make", "add", "remove", "list", "seal", "open", "report", "header", "ratchet", "kid",
+        "make",
+        "add",
+        "remove",
+        "list",
+        "seal",
+        "open",
+        "report",
+        "header",
+        "ratchet",
+        "kid",
+        "group-kid",
+        "group-parts",
+        "change-epoch",
     ] {
         assert!(help.contains(&format!("sframe {command} ")), "{command}");
     }
@@ -339,8 +390,9 @@ fn a_store_with_hard_links() {
     for store in ["ward", "b"] {
         let add = format!("add {store} --sending --kid 1 --suite 4 --key key");
         let remove = format!("remove {store} --kid 200");
+        let epoch = format!("change-epoch {store} --epoch-width 0 --epoch-bits 0");
         let seal = format!("seal {store} --kid 200 --in key");
-        for line in [add, remove, seal] {
+        for line in [add, remove, epoch, seal] {
             let message = folder.fails(&line, 74);
             assert!(message.contains("hard links"), "{message}");
         }

@@ -3,6 +3,7 @@
 
 use comparison::Call;
 use reference::aead::Aead;
+use reference::group::low_bits;
 use reference::header::write_header;
 use reference::record::Record;
 use reference::suites::{nonce, SUITES};
@@ -19,6 +20,10 @@ pub enum Given {
     },
     Remove {
         kid: u64,
+    },
+    ChangeEpoch {
+        width: u64,
+        bits: u64,
     },
     Seal {
         kid: u64,
@@ -55,6 +60,10 @@ impl Given {
                 base_key,
             },
             Given::Remove { kid } => Call::Remove { kid: *kid },
+            Given::ChangeEpoch { width, bits } => Call::ChangeEpoch {
+                width: *width,
+                bits: *bits,
+            },
             Given::Seal {
                 kid,
                 metadata,
@@ -99,6 +108,20 @@ impl Given {
             kid,
             base_key: generator.bytes(length),
         }
+    }
+
+    /// Mostly the epoch that a key number has, in some width.
+    pub fn change_epoch(generator: &mut Generator, kid: u64) -> Self {
+        let width = match generator.up_to(15) {
+            0 => *generator.pick(&[65, 66, 128, 256 + 4, 1 << 32 | 4, u64::MAX]),
+            1 => *generator.pick(&[0, 63, 64]),
+            _ => 1 + generator.up_to(61) as u64,
+        };
+        let bits = match generator.up_to(7) {
+            0 => generator.any_width(),
+            _ => low_bits(kid, width.min(64)),
+        };
+        Given::ChangeEpoch { width, bits }
     }
 
     pub fn seal(generator: &mut Generator, kid: u64) -> Self {
@@ -173,8 +196,9 @@ impl Given {
             .collect();
         if records.is_empty() || generator.one_in(12) {
             let kid = generator.any_width();
-            return match generator.up_to(5) {
+            return match generator.up_to(6) {
                 0 => Given::Remove { kid },
+                6 => Given::change_epoch(generator, kid),
                 1 => Given::seal(generator, kid),
                 2 => Given::open(generator, write_header(kid, 0), vec![]),
                 3 => Given::Report { kid },
@@ -183,8 +207,9 @@ impl Given {
             };
         }
         let record = generator.pick(&records).clone();
-        match generator.up_to(11) {
+        match generator.up_to(12) {
             11 => Given::Find { kid: record.kid },
+            12 if generator.one_in(4) => Given::change_epoch(generator, record.kid),
             0 => Given::add(generator, record.kid),
             1 => Given::Remove { kid: record.kid },
             2 => Given::Report { kid: record.kid },

@@ -6,7 +6,7 @@ use std::collections::BTreeMap;
 use std::fmt;
 
 /// What each call can answer.
-const ANSWERS: [(&str, &[u32]); 7] = [
+const ANSWERS: [(&str, &[u32]); 8] = [
     ("Make", &[DONE]),
     (
         "Add",
@@ -21,6 +21,15 @@ const ANSWERS: [(&str, &[u32]); 7] = [
         ],
     ),
     ("Remove", &[DONE, STORE_NOT_SOUND, KID_UNKNOWN, WRONG_ROLE]),
+    (
+        "ChangeEpoch",
+        &[
+            DONE,
+            STORE_NOT_SOUND,
+            GROUP_KID_TOO_LONG,
+            GROUP_PART_TOO_LARGE,
+        ],
+    ),
     (
         "Seal",
         &[
@@ -62,6 +71,7 @@ impl Tally {
             Call::Make => "Make",
             Call::Add { .. } => "Add",
             Call::Remove { .. } => "Remove",
+            Call::ChangeEpoch { .. } => "ChangeEpoch",
             Call::Seal { .. } => "Seal",
             Call::Open { .. } => "Open",
             Call::Report { .. } => "Report",

@@ -118,7 +118,11 @@ pub fn step(generator: &mut Generator, tally: &mut Tally, us: &mut Terminal, pee
             }
         }
         Call::Open { frame, .. } => us.note_opened(frame),
-        Call::Make | Call::Remove { .. } | Call::Report { .. } | Call::Find { .. } => (),
+        Call::Make
+        | Call::Remove { .. }
+        | Call::ChangeEpoch { .. }
+        | Call::Report { .. }
+        | Call::Find { .. } => (),
     }
 }
 
@@ -160,11 +164,12 @@ impl Terminal {
             20..22 => Given::Remove { kid },
             22..26 => Given::Report { kid },
             26..29 => Given::Find { kid },
-            29..42 if !self.kept.is_empty() => {
+            29..31 => Given::change_epoch(generator, kid),
+            31..42 if !self.kept.is_empty() => {
                 let (frame, metadata) = generator.pick(&self.kept).clone();
                 Given::open(generator, frame, metadata)
             }
-            29..100 => match self.waiting.pop() {
+            31..100 => match self.waiting.pop() {
                 Some((frame, metadata)) => Given::open(generator, frame, metadata),
                 None => Given::seal(generator, sending),
             },

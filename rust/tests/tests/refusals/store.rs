@@ -1,4 +1,4 @@
-//! Add, Remove, Find, Seal and the report.
+//! Add, Remove, the change of epoch, Find, Seal and the report.
 
 use super::held::{make_unsound, store, Held, HELD, KID};
 use super::seen::Seen;
@@ -18,6 +18,7 @@ const ADD: &[u32] = &[
 ];
 const REMOVE: &[u32] = &[STORE_NOT_SOUND, KID_UNKNOWN, WRONG_ROLE];
 const REPORT: &[u32] = REMOVE;
+const CHANGE_EPOCH: &[u32] = &[STORE_NOT_SOUND, GROUP_KID_TOO_LONG, GROUP_PART_TOO_LARGE];
 const FIND: &[u32] = &[STORE_NOT_SOUND, KID_UNKNOWN];
 const SEAL: &[u32] = &[
     STORE_NOT_SOUND,
@@ -98,6 +99,30 @@ fn remove() {
     let wrong = [Held::Retired, Held::RetiredSpent];
     let seen = by_key_number(REMOVE, Call::Remove { kid: KID }, &wrong);
     seen.finish(&[(KID_UNKNOWN, WRONG_ROLE)]);
+}
+
+#[test]
+fn change_epoch() {
+    let mut seen = Seen::new(CHANGE_EPOCH);
+    for [suite, held, unsound] in combinations([5, 6, 2]) {
+        let (held, unsound) = (HELD[held], unsound == 1);
+        let mut store = store(SUITES[suite], held, 2);
+        if unsound {
+            make_unsound(&mut store);
+        }
+        for [width, bits] in combinations([9, 6]) {
+            let width = [0, 1, 4, 63, 64, 65, 256 + 4, 1 << 32 | 4, u64::MAX][width];
+            let bits = [0, 1, KID % 16, KID, 1 << 63, u64::MAX][bits];
+            let causes = [
+                (STORE_NOT_SOUND, unsound),
+                (GROUP_KID_TOO_LONG, width > 64),
+                (GROUP_PART_TOO_LARGE, width < 64 && bits >> width != 0),
+            ];
+            seen.check(&store, Call::ChangeEpoch { width, bits }, causes);
+        }
+    }
+    // No number of 64 bits is 2^65 or more.
+    seen.finish(&[(GROUP_KID_TOO_LONG, GROUP_PART_TOO_LARGE)]);
 }
 
 #[test]

@@ -2,8 +2,8 @@
 
 use crate::{refusal, BASE_KEY, KID};
 use sframe::{
-    ratchet, ratchet_kid, raw, Kid, Metadata, Refusal, Role, Store, Suite, MAX_COUNTER,
-    MAX_PLAINTEXT, RECORD, WINDOW,
+    group_kid, ratchet, ratchet_kid, raw, EpochBits, GroupParts, GroupWidths, Kid, Metadata,
+    Refusal, Role, Store, Suite, MAX_COUNTER, MAX_PLAINTEXT, RECORD, WINDOW,
 };
 
 const SUITE: Suite = Suite::Aes128GcmSha256_128;
@@ -28,6 +28,7 @@ pub fn show() -> Result<(), Refusal> {
     assert_eq!((ward, doctor), before);
     of_replay(&mut ward, &mut doctor, &frame)?;
     of_ratchet();
+    of_groups(&mut doctor);
     Ok(())
 }
 
@@ -133,4 +134,27 @@ fn of_ratchet() {
     let answer = ratchet(SUITE, BASE_KEY, 65, &mut room);
     print(refusal(answer), "a base key is walked 65 steps at once");
     assert_eq!(room, [0xee; 64]);
+}
+
+fn of_groups(doctor: &mut [u8]) {
+    let epoch = EpochBits { width: 4, bits: 16 };
+    let answer = Store::over(doctor).change_epoch(epoch);
+    print(
+        refusal(answer),
+        "an epoch is removed whose low 4 bits would be 16",
+    );
+    let member = GroupParts {
+        context: 0,
+        index: 3,
+        epoch: 14,
+    };
+    let widths = GroupWidths {
+        index: 6,
+        epoch: 59,
+    };
+    let answer = group_kid(member, widths);
+    print(
+        refusal(answer),
+        "a key number has 6 bits of the index and 59 of the epoch",
+    );
 }

@@ -2,7 +2,7 @@
 
 use crate::failure::Failure;
 use crate::input::Place;
-use sframe::{Ctr, Kid, Role};
+use sframe::{Ctr, EpochBits, GroupParts, GroupWidths, Kid, Role};
 use std::ffi::OsString;
 use std::path::PathBuf;
 
@@ -64,6 +64,18 @@ pub enum Command {
         generation: u64,
         step: u64,
         bits: u64,
+    },
+    GroupKid {
+        parts: GroupParts,
+        widths: GroupWidths,
+    },
+    GroupParts {
+        kid: Kid,
+        widths: GroupWidths,
+    },
+    ChangeEpoch {
+        store: PathBuf,
+        epoch: EpochBits,
     },
 }
 
@@ -131,6 +143,25 @@ impl Command {
                 step: words.number("--step")?,
                 bits: words.number("--bits")?,
             },
+            "group-kid" => Command::GroupKid {
+                parts: GroupParts {
+                    context: words.number("--context")?,
+                    index: words.number("--index")?,
+                    epoch: words.number("--epoch")?,
+                },
+                widths: words.widths()?,
+            },
+            "group-parts" => Command::GroupParts {
+                kid: Kid(words.number("--kid")?),
+                widths: words.widths()?,
+            },
+            "change-epoch" => Command::ChangeEpoch {
+                store: words.store()?,
+                epoch: EpochBits {
+                    width: words.number("--epoch-width")?,
+                    bits: words.number("--epoch-bits")?,
+                },
+            },
             _ => return Err(Failure::usage(format!("there is no command {name:?}"))),
         };
         words.finish()?;
@@ -139,7 +170,7 @@ impl Command {
 }
 
 /// The options that take a value, and those that take none.
-const VALUES: [&str; 14] = [
+const VALUES: [&str; 20] = [
     "--keys",
     "--kid",
     "--suite",
@@ -154,6 +185,12 @@ const VALUES: [&str; 14] = [
     "--step",
     "--bits",
     "--offset",
+    "--context",
+    "--index",
+    "--epoch",
+    "--index-width",
+    "--epoch-width",
+    "--epoch-bits",
 ];
 const FLAGS: [&str; 4] = ["--sending", "--receiving", "--hex", "--help"];
 
@@ -298,6 +335,13 @@ impl Words {
             hex: self.flag("--hex"),
             steps: self.number("--steps")?,
             output,
+        })
+    }
+
+    fn widths(&mut self) -> Result<GroupWidths, Failure> {
+        Ok(GroupWidths {
+            index: self.number("--index-width")?,
+            epoch: self.number("--epoch-width")?,
         })
     }
 

@@ -9,9 +9,9 @@ use crate::input::Place;
 use crate::log_file::LogFile;
 use crate::store_file::StoreFile;
 use sframe::{
-    frame_room, ratchet_kid, raw, read_header, write_header_at, Ctr, Kid, Metadata, Refusal, Role,
-    State, Store, StoreView, Suite, MAX_BASE_KEY, MAX_HEADER, MAX_METADATA, MAX_PLAINTEXT,
-    MAX_RECORDS, RECORD, WINDOW,
+    frame_room, group_kid, group_parts, ratchet_kid, raw, read_header, write_header_at, Ctr,
+    GroupParts, Kid, Metadata, Refusal, Role, State, Store, StoreView, Suite, MAX_BASE_KEY,
+    MAX_HEADER, MAX_METADATA, MAX_PLAINTEXT, MAX_RECORDS, RECORD, WINDOW,
 };
 use std::io::Write;
 use std::path::Path;
@@ -97,6 +97,22 @@ pub fn run(command: Command, disk: &mut impl Disk, out: &mut impl Write) -> Resu
         } => {
             let Kid(kid) = ratchet_kid(generation, step, bits)?;
             print(out, &format!("{kid}\n"))
+        }
+        Command::GroupKid { parts, widths } => {
+            let Kid(kid) = group_kid(parts, widths)?;
+            print(out, &format!("{kid}\n"))
+        }
+        Command::GroupParts { kid, widths } => {
+            let GroupParts {
+                context,
+                index,
+                epoch,
+            } = group_parts(kid, widths)?;
+            let text = format!("context {context}, index {index}, epoch bits {epoch}\n");
+            print(out, &text)
+        }
+        Command::ChangeEpoch { store, epoch } => {
+            change(disk, &store, |bytes| Store::over(bytes).change_epoch(epoch))
         }
     }
 }

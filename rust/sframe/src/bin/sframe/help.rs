@@ -60,6 +60,19 @@ once.
       Writes the key number of a step: its low R bits, 1 to 16, are the step's,
       the others are the generation.
 
+  sframe group-kid --context C --index I --epoch N
+              --index-width S --epoch-width E
+      Writes the key number of a member of an MLS group: its low E bits are the
+      epoch's, the S bits above them are the member's index, the others are the
+      context. S and E are 64 at most together.
+
+  sframe group-parts --kid K --index-width S --epoch-width E
+      Writes these parts of a key number.
+
+  sframe change-epoch STORE --epoch-width E --epoch-bits B
+      Removes the receiving keys whose numbers have B as their low E bits, be
+      there none. Numbers that were added for sending stay taken.
+
 FILE may be - for standard input or standard output, which is also what --in
 and --out are when they are left out. Numbers are decimal, or hex after 0x.
 
@@ -77,7 +90,7 @@ For receiving, such a store opens frames again that were opened before. A store
 of an earlier version, whose records have 80 bytes or do not stand by rising key
 number, is refused (1): make a new one, and give it new keys.
 
-Exit status: 0 done; 1 to 15, 17, 20 and 21 refused, with these causes:
+Exit status: 0 done; 1 to 15, 17 and 20 to 23 refused, with these causes:
    1  the store is not sound, or not      9  plaintext above 32768 bytes, or
       1 to 1024 keys in making               metadata above 1024
    2  no such suite                      10  header cut short
@@ -88,7 +101,9 @@ Exit status: 0 done; 1 to 15, 17, 20 and 21 refused, with these causes:
    7  role does not allow it             15  64 counters or more too old
    8  the key has no counter left        20  not 1 to 16 bits of a step, or a
   17  suite 3 is not for sending             key number past 64 bits
-                                         21  more than 64 steps
+  21  more than 64 steps                 23  widths above 64 together, or a
+  22  index or epoch bits past their         key number past 64 bits
+      width
 64 the command line is wrong; 65 an input is not hex; 74 a file failed.
 
 Example, sealing at one end and opening at the other:

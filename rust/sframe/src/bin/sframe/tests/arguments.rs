@@ -2,7 +2,7 @@
 
 use crate::arguments::{Command, Streams};
 use crate::input::Place;
-use sframe::{Ctr, Kid, Role};
+use sframe::{Ctr, EpochBits, GroupParts, GroupWidths, Kid, Role};
 use std::ffi::OsString;
 
 fn parse(line: &str) -> Result<Command, String> {
@@ -89,6 +89,27 @@ fn a_report() {
 }
 
 #[test]
+fn groups() {
+    let widths = GroupWidths { index: 6, epoch: 4 };
+    let parts = GroupParts {
+        context: 3,
+        index: 2,
+        epoch: 16,
+    };
+    let line = "group-kid --epoch-width 4 --epoch 16 --index 2 --context 3 --index-width 6";
+    assert_eq!(parse(line), Ok(Command::GroupKid { parts, widths }));
+    let line = "group-parts --kid 0xc20 --index-width 6 --epoch-width 4";
+    let kid = Kid(0xc20);
+    assert_eq!(parse(line), Ok(Command::GroupParts { kid, widths }));
+    let expected = Command::ChangeEpoch {
+        store: "doctor".into(),
+        epoch: EpochBits { width: 4, bits: 14 },
+    };
+    let line = "change-epoch doctor --epoch-width 4 --epoch-bits 14";
+    assert_eq!(parse(line), Ok(expected));
+}
+
+#[test]
 fn offsets() {
     for (line, expected) in [
         ("seal ward --kid 1", 0),
@@ -153,6 +174,13 @@ fn wrong_lines() {
         "header",
         "header --kid 1",
         "header --in f --kid 1",
+        "group-kid --context 0 --index 3 --epoch 14 --epoch-width 4",
+        "group-kid --index 3 --epoch 14 --index-width 6 --epoch-width 4",
+        "group-parts --kid 62 --index-width 6",
+        "group-parts ward --kid 62 --index-width 6 --epoch-width 4",
+        "change-epoch --epoch-width 4 --epoch-bits 14",
+        "change-epoch ward --epoch-width 4",
+        "change-epoch ward --epoch-width 4 --epoch 14",
     ] {
         assert!(parse(line).is_err(), "{line}");
     }
