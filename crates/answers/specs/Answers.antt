@@ -67,6 +67,13 @@ groupPartTooLarge = 22
 abbrev pub groupKidTooLong : ℕ
 groupKidTooLong = 23
 
+-- of an object over MoQ: a pair not above the last sealed, and an object number past 32 bits
+abbrev pub pairNotAbove : ℕ
+pairNotAbove = 24
+
+abbrev pub objectTooLarge : ℕ
+objectTooLarge = 25
+
 -- A cause of refusal: its number, and whether it applies.
 pub record Cause : Type 0 where
   pub number : ℕ

@@ -45,6 +45,10 @@ pub const GROUP_PART_TOO_LARGE: u32 = 22;
 
 pub const GROUP_KID_TOO_LONG: u32 = 23;
 
+pub const PAIR_NOT_ABOVE: u32 = 24;
+
+pub const OBJECT_TOO_LARGE: u32 = 25;
+
 // The shortest base key, and the longest.
 pub const MIN_BASE_KEY: usize = 16;
 

@@ -213,13 +213,18 @@ xors-cancel t x y hx hy e =
     ext-getD 0 x y (hx ∙ sym hy) (λ i h. xor-cancel (getD t i 0) (getD x i 0) (getD y i 0)
     (sym (xors-at t x i (omega arith)) ∙ ap (λ (l : List ℕ). getD l i 0) e ∙ xors-at t y i (omega arith)))
 
--- under one salt, different counters give different nonces
-pub nonce-apart : (t : List ℕ) (a b : ℕ) → length t ≡ Nn → a < 2 ^ 64 → b < 2 ^ 64 → nonce t a ≡ nonce t b → a ≡ b
+-- under one salt, different counters of Nn bytes give different nonces
+pub nonce-differs : (t : List ℕ) (a b : ℕ) → length t ≡ Nn → a < 256 ^ Nn → b < 256 ^ Nn → nonce t a ≡ nonce t b → a ≡ b
 unfolding nonce
-nonce-apart t a b h ha hb e =
+nonce-differs t a b h ha hb e =
     let q : bytes Nn a ≡ bytes Nn b = xors-cancel t (bytes Nn a) (bytes Nn b) (bytes-length Nn a ∙ sym h) (bytes-length Nn b ∙ sym h) e in
+    sym (mod-eq-of-lt ha) ∙ sym (number-bytes Nn a) ∙ ap (number Nn) q ∙ number-bytes Nn b ∙ mod-eq-of-lt hb
+
+-- and so do those of 64 bits
+pub nonce-apart : (t : List ℕ) (a b : ℕ) → length t ≡ Nn → a < 2 ^ 64 → b < 2 ^ 64 → nonce t a ≡ nonce t b → a ≡ b
+nonce-apart t a b h ha hb e =
     let w : 2 ^ 64 ≤ 256 ^ 12 = pow-le-pow-right {n = 2} (omega arith) {i = 64} {j = 96} (omega arith) in
-    sym (mod-eq-of-lt (lt-of-lt-of-le ha w)) ∙ sym (number-bytes Nn a) ∙ ap (number Nn) q ∙ number-bytes Nn b ∙ mod-eq-of-lt (lt-of-lt-of-le hb w)
+    nonce-differs t a b h (lt-of-lt-of-le ha w) (lt-of-lt-of-le hb w) e
 
 -- ---- encryption
 

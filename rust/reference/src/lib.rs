@@ -17,6 +17,7 @@ pub mod header;
 pub mod hkdf;
 pub mod hmac;
 pub mod log;
+pub mod moq;
 pub mod ratchet;
 pub mod record;
 pub mod refusal;

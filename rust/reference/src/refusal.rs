@@ -43,6 +43,10 @@ pub enum Refusal {
     GroupPartTooLarge = 22,
     /// S + E is more than 64, or the KID is past 64 bits.
     GroupKidTooLong = 23,
+    /// MoQ: the pair is not above the last one sealed.
+    PairNotAbove = 24,
+    /// MoQ: the object number has more than 32 bits.
+    ObjectTooLarge = 25,
 }
 
 /// What a call answers: the length of its result, or why it refuses.

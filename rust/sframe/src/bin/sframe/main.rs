@@ -19,6 +19,9 @@ use std::env;
 use std::io::{self, Write};
 use std::process::ExitCode;
 
+/// The longest store.
+const MAX_STORE: usize = sframe::MAX_RECORDS * sframe::RECORD;
+
 fn main() -> ExitCode {
     match run() {
         Ok(()) => ExitCode::SUCCESS,

@@ -2,7 +2,7 @@
 
 use crate::disk::Disk;
 use crate::failure::Failure;
-use sframe::{MAX_RECORDS, RECORD};
+use crate::MAX_STORE;
 use std::ffi::{OsStr, OsString};
 use std::fs::{File, OpenOptions};
 use std::io;
@@ -74,7 +74,7 @@ impl StoreFile {
     /// The bytes of the store; of a file that is no store, one more than a store
     /// can have.
     pub fn read(&self, disk: &mut impl Disk) -> Result<Vec<u8>, Failure> {
-        disk.read(&self.0, MAX_RECORDS * RECORD + 1)
+        disk.read(&self.0, MAX_STORE + 1)
             .map_err(Failure::at(&self.0))
     }
 

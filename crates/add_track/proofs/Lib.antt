@@ -1,0 +1,2 @@
+mod Addition
+pub mod Adds

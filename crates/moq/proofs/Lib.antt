@@ -1,0 +1,5 @@
+mod Ledger
+mod Objects
+mod Opens
+mod Soundness
+pub mod Theorem

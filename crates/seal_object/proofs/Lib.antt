@@ -1,0 +1,2 @@
+mod SealSteps
+pub mod Sealings

@@ -1,0 +1,4 @@
+pub mod Varint
+pub mod Objects
+pub mod Derivation
+pub mod inner

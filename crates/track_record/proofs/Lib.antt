@@ -1,0 +1,4 @@
+pub mod Codec
+mod Fields
+pub mod Records
+mod Steps

@@ -1,0 +1,6 @@
+pub mod Stores
+pub mod Tables
+mod Walk
+pub mod Places
+mod Removal
+pub mod Changes

@@ -1,0 +1,4 @@
+pub mod Calls
+pub mod Tracks
+pub mod Table
+pub mod inner
