@@ -160,7 +160,7 @@ unfolding nextWord
 first-word nk key k n w h e = rw (← e, lt-ltb k nk h)
 
 -- The first Nk words are the key.
-key-word : (nk : ℕ) (key : List ℕ) (n k : ℕ) → k < n → k < nk → getD (expansion nk key n) k 0 ≡ number 4 (drop (4 * k) key)
+pub key-word : (nk : ℕ) (key : List ℕ) (n k : ℕ) → k < n → k < nk → getD (expansion nk key n) k 0 ≡ number 4 (drop (4 * k) key)
 unfolding expansion
 key-word nk key zero k h l = absurd (not-suc-le-zero h)
 key-word nk key (suc n) k h l =

@@ -12,7 +12,7 @@ ghost use Rattle.aes_tables.specs.Field.{sBox};
 ghost use Rattle.aes.specs.Aes.{KeySize, byte, blockSize, addRoundKey, mixColumns, shiftRows, subBytes, rounds, encryptState, stateOf, blockOf, encrypt};
 ghost use Rattle.aes.specs.inner.Context.{maxRounds, tableAt, entries, share0, share1, share2, share3, Table, Context, Ready, keyOf, listOf};
 
-mod schedule;
+pub mod schedule;
 mod table;
 
 // The bytes of a block.

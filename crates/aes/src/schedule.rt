@@ -12,7 +12,7 @@ ghost use Rattle.aes.specs.inner.Context.{maxWords};
 pub type Words = [u32; WORDS];
 
 // Round constant j, from the table of them.
-fn round_constant(r: &[u8; 10], j: usize) -> u32
+pub fn round_constant(r: &[u8; 10], j: usize) -> u32
     requires { ⌜ RconTable (now r) ⌝ }
     requires { ⌜ (1 ≤ j) × (j ≤ 10) ⌝ }
     ensures { λ c. ⌜ c ≡ rcon j ⌝ }
@@ -67,7 +67,7 @@ fn transform(s: &[u8; 256], rc: &[u8; 10], nk: usize, j: usize, m: usize, w: u32
 }
 
 // Writes the key as the first words.
-fn take_key(x: &mut Words, key: &[u8])
+pub fn take_key(x: &mut Words, key: &[u8])
     requires { ⌜ length (now x) ≡ maxWords ⌝ }
     requires { ⌜ KeySize (length (now key)) ⌝ }
     ensures { λ _. ⌜ (length (now (x .exit)) ≡ maxWords) × (take (Nk (now (key .entry))) (now (x .exit)) ≡ expansion (Nk (now (key .entry))) (now (key .entry)) (Nk (now (key .entry)))) ⌝ }
@@ -81,13 +81,13 @@ fn take_key(x: &mut Words, key: &[u8])
 }
 
 // Where a word stands, as word j * nk + m.
-struct Place {
-    j: usize,
-    m: usize,
+pub struct Place {
+    pub j: usize,
+    pub m: usize,
 }
 
 // Two words on.
-fn two_on(nk: usize, p: Place) -> Place
+pub fn two_on(nk: usize, p: Place) -> Place
     requires { ⌜ (p .m + 2 ≤ nk) × (p .m % 2 ≡ 0) × (nk ≤ 8) × (p .j ≤ 10) ⌝ }
     ensures { λ r. ⌜ (r .j * nk + r .m ≡ p .j * nk + p .m + 2) × (r .m < nk) × (r .m % 2 ≡ 0) × (p .j ≤ r .j) ⌝ }
 {

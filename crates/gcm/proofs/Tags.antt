@@ -9,21 +9,20 @@ use lib.Bits.{bitXor}
 use lib.ListN.{length, drop, take, replicate, length-append, length-drop, drop-of-length-le}
 use Rattle.octets.specs.Octets.{number, bytes, xors}
 use lib.Seq.{take-at, drop-at, take-all}
-use Rattle.octets.proofs.Laws.{number-append}
+use Rattle.octets.proofs.Laws.{number-take}
 use Rattle.aes.specs.Aes.{encrypt}
-use Rattle.aes.proofs.Laws.{encrypt-length}
 use Rattle.gcm.specs.Counter.{counterBlock, ctr}
 use Rattle.ghash.specs.Ghash.{product, absorb, pair}
 use Rattle.ghash.specs.inner.HashKey.{HashKey}
 use Rattle.gcm.specs.Gcm.{hashKey, hash, gcmTag, gcmCiphertext, gcmEncrypt}
+use Rattle.gcm.specs.inner.Front.{Front}
 use Rattle.gcm.proofs.Laws.{tag-length}
 
-pub hash-key-made : (key h t : List ℕ) (v : ℕ) → h ≡ encrypt key (replicate 16 0) ++ drop 16 (replicate 16 0) → v ≡ number 16 h
-    → HashKey v t → HashKey (hashKey key) t
+-- The first block of a front is that of the hash key.
+pub hash-key-made : (key nonce f t : List ℕ) (v : ℕ) → Front key nonce f → v ≡ number 16 f → HashKey v t → HashKey (hashKey key) t
 unfolding hashKey
-hash-key-made key h t v e f k =
-    let n : length (encrypt key (replicate 16 0)) ≡ 16 = encrypt-length key (replicate 16 0) in
-    subst (λ (x : ℕ). HashKey x t) (f ∙ ap (number 16) e ∙ number-append 16 (encrypt key (replicate 16 0)) _ (omega arith)) k
+hash-key-made key nonce f t v b e k =
+    subst (λ (x : ℕ). HashKey x t) (e ∙ sym (number-take 16 16 f (omega arith)) ∙ ap (number 16) (b .each 0 (omega arith))) k
 
 pub hashed : (h : ℕ) (a b c : List ℕ) (u y s r : ℕ) → u ≡ absorb h 0 (a ++ b) → y ≡ absorb h u (c ++ [])
     → s ≡ bitXor y (pair ((length a + length b) * 8) (length c * 8)) → r ≡ product s h → r ≡ hash h (a ++ b) c
@@ -33,10 +32,13 @@ hashed h a b c u y s r e f g k =
     let n : length c * 8 ≡ 8 * length c = omega arith in
     k ∙ rw (g, f, e, append-nil c, m, n)
 
-pub tagged : (key nonce aad c s o : List ℕ) (y : ℕ) → y ≡ hash (hashKey key) aad c → s ≡ bytes 16 y ++ drop 16 (replicate 16 0)
-    → o ≡ xors s (encrypt key (counterBlock nonce 1)) → o ≡ gcmTag key nonce aad c
-unfolding gcmTag
-tagged key nonce aad c s o y e f g = g ∙ rw (f, e, append-nil (bytes 16 (hash (hashKey key) aad c)))
+-- Its second block masks the tag.
+pub tagged : (key nonce aad c f z s o : List ℕ) (y : ℕ) → Front key nonce f → length z ≡ 16 → y ≡ hash (hashKey key) aad c
+    → s ≡ bytes 16 y ++ drop 16 z → o ≡ xors s (take 16 (drop 16 f)) → o ≡ gcmTag key nonce aad c
+unfolding gcmTag counterBlock
+tagged key nonce aad c f z s o y b l e h g =
+    let d : drop 16 z ≡ [] = drop-of-length-le z {i = 16} (omega arith) in
+    g ∙ rw (h, d, e, append-nil (bytes 16 (hash (hashKey key) aad c)), b .each 1 (omega arith))
 
 pub front-length : (p l : List ℕ) (n : ℕ) → length p ≡ n → n ≡ length (take n (p ++ l))
 front-length p l n e = sym (ap length (take-at p l n e) ∙ e)

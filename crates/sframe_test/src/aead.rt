@@ -2,14 +2,16 @@
 // out, or it answers 1 and changes nothing.
 ghost use mathlib.Core.Path.{_≡_};
 ghost use mathlib.Core.List.{_++_};
-ghost use Prim.Native.Nat.{_+_};
+ghost use Prim.Native.Nat.{_+_, _≤_};
 ghost use lib.ListN.{length, drop};
 ghost use Rattle.octets.specs.Octets.{number, bytes};
-ghost use Rattle.aes.specs.Aes.{blockSize, encrypt};
+ghost use Rattle.aes.specs.Aes.{KeySize, blockSize, encrypt};
 ghost use Rattle.aes.specs.inner.Context.{Ready, keyOf};
-ghost use Rattle.gcm.specs.Counter.{ctr};
+ghost use Rattle.aes_keys.specs.inner.Keys as keys;
+ghost use Rattle.gcm.specs.Counter.{nonceSize, ctr};
 ghost use Rattle.ghash.specs.Ghash.{absorb};
-ghost use Rattle.gcm.specs.Gcm.{gcmTag, gcmEncrypt};
+ghost use Rattle.gcm.specs.Gcm.{tagSize, gcmTag, gcmEncrypt};
+ghost use Rattle.gcm.specs.inner.Limits.{maxBytes};
 ghost use Rattle.sframe_test.specs.Judged.{Judged, AesTakes, AesRepeatTakes, CtrTakes, GhashTakes, GcmTakes};
 ghost use Rattle.sframe_test.specs.Repeated.{repeated};
 use crate::judge::MAX_BYTES;
@@ -19,6 +21,16 @@ use crate::judge::parts_taken;
 
 // The last block count that the longest input may start at.
 const LAST_COUNT: u32 = 0xffff_0000;
+
+// The context of a key by which batches are encrypted.
+fn context(key: &[u8]) -> aes_keys::Context
+    requires { ⌜ KeySize (length (now key)) ⌝ }
+    ensures { λ r. ⌜ keys.Context (now (key .entry)) r ⌝ }
+{
+    let mut ctx = aes_keys::blank();
+    aes_keys::expand(&mut ctx, key);
+    ctx
+}
 
 // AES encryption of a block of 16 bytes, under a key of 16 or 32.
 #[no_mangle]
@@ -101,7 +113,7 @@ pub extern "C" fn sframe_test_ctr(
     if out.len() < n {
         return 1;
     }
-    let ctx = aes::expand(key);
+    let ctx = context(key);
     gcm::counter::apply(&ctx, nonce, count, input, &mut out[..n]);
     0
 }
@@ -126,6 +138,43 @@ pub extern "C" fn sframe_test_ghash(key: &[u8], input: &[u8], out: &mut [u8]) ->
     0
 }
 
+// GCM encryption and the tag of GCM, each with a front and a hash key of its own.
+fn gcm_seal(
+    ctx: &aes_keys::Context,
+    nonce: &[u8],
+    header: &[u8],
+    metadata: &[u8],
+    plaintext: &[u8],
+    out: &mut [u8],
+)
+    requires { ⌜ (keys.Ready (now ctx)) × (length (now nonce) ≡ nonceSize) ⌝ }
+    requires { ⌜ (length (now header) ≤ maxBytes) × (length (now metadata) ≤ maxBytes) × (length (now plaintext) ≤ maxBytes) ⌝ }
+    requires { ⌜ length (now out) ≡ length (now plaintext) + tagSize ⌝ }
+    ensures { λ _. ⌜ now (out .exit) ≡ gcmEncrypt (keys.keyOf (now (ctx .entry))) (now (nonce .entry)) (now (header .entry) ++ now (metadata .entry)) (now (plaintext .entry)) ⌝ }
+{
+    let f = gcm::front(ctx, nonce);
+    let t = gcm::hash_key(ctx, nonce, &f);
+    gcm::encrypt(ctx, &t, nonce, &f, header, metadata, plaintext, out);
+}
+
+fn gcm_tag(
+    ctx: &aes_keys::Context,
+    nonce: &[u8],
+    header: &[u8],
+    metadata: &[u8],
+    ciphertext: &[u8],
+    out: &mut [u8],
+)
+    requires { ⌜ (keys.Ready (now ctx)) × (length (now nonce) ≡ nonceSize) ⌝ }
+    requires { ⌜ (length (now header) ≤ maxBytes) × (length (now metadata) ≤ maxBytes) × (length (now ciphertext) ≤ maxBytes) ⌝ }
+    requires { ⌜ length (now out) ≡ tagSize ⌝ }
+    ensures { λ _. ⌜ now (out .exit) ≡ gcmTag (keys.keyOf (now (ctx .entry))) (now (nonce .entry)) (now (header .entry) ++ now (metadata .entry)) (now (ciphertext .entry)) ⌝ }
+{
+    let f = gcm::front(ctx, nonce);
+    let t = gcm::hash_key(ctx, nonce, &f);
+    gcm::tag(ctx, &t, nonce, &f, header, metadata, ciphertext, out);
+}
+
 // GCM encryption: the ciphertext, then the tag. The associated data are header and metadata.
 #[no_mangle]
 pub extern "C" fn sframe_test_gcm_seal(
@@ -148,9 +197,8 @@ pub extern "C" fn sframe_test_gcm_seal(
     if out.len() < n {
         return 1;
     }
-    let ctx = aes::expand(key);
-    let t = gcm::hash_key(&ctx);
-    gcm::encrypt(&ctx, &t, nonce, header, metadata, plaintext, &mut out[..n]);
+    let ctx = context(key);
+    gcm_seal(&ctx, nonce, header, metadata, plaintext, &mut out[..n]);
     0
 }
 
@@ -175,16 +223,7 @@ pub extern "C" fn sframe_test_gcm_tag(
     if out.len() < 16 {
         return 1;
     }
-    let ctx = aes::expand(key);
-    let t = gcm::hash_key(&ctx);
-    gcm::tag(
-        &ctx,
-        &t,
-        nonce,
-        header,
-        metadata,
-        ciphertext,
-        &mut out[..16],
-    );
+    let ctx = context(key);
+    gcm_tag(&ctx, nonce, header, metadata, ciphertext, &mut out[..16]);
     0
 }

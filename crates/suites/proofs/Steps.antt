@@ -17,7 +17,7 @@ use Rattle.suites.specs.declared.sizes.Suite.{Suite}
 use Rattle.suites.specs.Suites.{numberOf, Nk, Nn, Nt, hashOf, modeOf, cipherKeySize}
 use Rattle.suites.specs.declared.sizes.Mode.the-variants.{CtrHmac, Gcm}
 use Rattle.aes.specs.Aes.{KeySize}
-use Rattle.aes.specs.inner.Context.{Context}
+use Rattle.aes_keys.specs.inner.Keys.{Context}
 use Rattle.sha2.specs.Sizes.{sha256}
 use Rattle.hmac.specs.Hmac.{hmac}
 use Rattle.gcm.specs.Counter.{ctr}
@@ -93,6 +93,10 @@ pub tag-gcm : (s : Suite) (k n a c t x : List ℕ) → modeOf s ≡ Gcm → leng
 unfolding tag
 tag-gcm s k n a c t x m h e l q =
     rw (m, gcm-sizes s m) (take-all 16 t (omega arith) ∙ q ∙ ap (λ (y : List ℕ). gcmTag y n a c) (e ∙ whole-key s k m h))
+
+-- the two modes are not the same
+pub modes-apart : CtrHmac ≡ Gcm → ⊥
+modes-apart e = let z : firstCount CtrHmac ≡ firstCount Gcm = ap firstCount e in omega arith
 
 -- what is written to the front of a lent front part
 pub front-lent : (l p x : List ℕ) (n : ℕ) → n ≤ length l → p ≡ x → p ++ drop (n - 0) l ≡ x ++ drop n l

@@ -3,12 +3,14 @@ ghost use mathlib.Core.Path.{_≡_};
 ghost use mathlib.Core.List.{_++_};
 ghost use Prim.Native.Nat.{_+_, _-_, _≤_};
 ghost use lib.ListN.{length, take, drop};
-ghost use Rattle.aes.specs.inner.Context.{Context, Ready, keyOf};
+ghost use Rattle.aes_keys.specs.inner.Keys.{size, Context, Ready, keyOf};
 ghost use Rattle.gcm.specs.Counter.{ctr};
 ghost use Rattle.gcm.specs.Gcm.{gcmTag};
 ghost use Rattle.gcm.specs.inner.Limits.{maxBytes};
+ghost use Rattle.gcm.specs.inner.Front.{Front, frontSize};
 ghost use Rattle.suites.specs.Suites.{Nk, Nn, Nt, modeOf};
 ghost use Rattle.suites.specs.inner.Sizes.{maxNt};
+ghost use Rattle.suites.specs.inner.Fronts.{Fronted};
 ghost use Rattle.suites.specs.declared.sizes.Suite.the-variants.{Ctr80};
 ghost use Rattle.suites.specs.Aead.{cipherKey, firstCount, ctrTag, tag, encrypt, decrypt, isPlain, roomAfter};
 use crate::sizes::Aes128CtrHmacSha256Tag80;
@@ -23,22 +25,23 @@ const MAX_NT: usize = Aes128GcmSha256::NT;
 // The bytes of the key that encrypt in counter mode: by the contract of `cipher_key_size`, the same in its three suites.
 const NKA: usize = Aes128CtrHmacSha256Tag80::NKA;
 
-// The AES context of a suite's key.
-fn context(suite: Suite, key: &[u8]) -> aes::Context
-    requires { ⌜ length (now key) ≡ Nk suite ⌝ }
-    ensures { λ r. ⌜ Context (cipherKey suite (now (key .entry))) r ⌝ }
+// Fills ctx with the AES context of a suite's key.
+fn context(ctx: &mut [u64], suite: Suite, key: &[u8])
+    requires { ⌜ (length (now ctx) ≡ size) × (length (now key) ≡ Nk suite) ⌝ }
+    ensures { λ _. ⌜ Context (cipherKey suite (now (key .entry))) (now (ctx .exit)) ⌝ }
 {
     let n = suite.cipher_key_size();
-    aes::expand(&key[0..n])
+    aes_keys::expand(ctx, &key[0..n]);
 }
 
-// The block count of the first counter block.
-fn first_count(suite: Suite) -> u32
-    ensures { λ r. ⌜ (r ≡ firstCount (modeOf suite)) × (r ≤ 2) ⌝ }
+// With Galois/counter mode the front of key and nonce; counter mode needs none.
+fn front(suite: Suite, ctx: &aes_keys::Context, nonce: &[u8]) -> gcm::Front
+    requires { ⌜ (Ready (now ctx)) × (length (now nonce) ≡ Nn) ⌝ }
+    ensures { λ r. ⌜ Fronted suite (keyOf (now (ctx .entry))) (now (nonce .entry)) r × (length r ≡ frontSize) ⌝ }
 {
     match suite.mode() {
-        Mode::CtrHmac => 0,
-        Mode::Gcm => 2,
+        Mode::CtrHmac => [0u8; gcm::FRONT],
+        Mode::Gcm => gcm::front(ctx, nonce),
     }
 }
 
@@ -63,33 +66,36 @@ fn ctr_tag(
 
 // The tag of Galois/counter mode.
 fn gcm_tag(
-    ctx: &aes::Context,
+    ctx: &aes_keys::Context,
     nonce: &[u8],
+    f: &[u8],
     header: &[u8],
     metadata: &[u8],
     ciphertext: &[u8],
 ) -> [u8; MAX_NT]
-    requires { ⌜ (Ready (now ctx)) × (length (now nonce) ≡ Nn) ⌝ }
+    requires { ⌜ Front (keyOf (now ctx)) (now nonce) (now f) ⌝ }
     requires { ⌜ (length (now header) ≤ maxBytes) × (length (now metadata) ≤ maxBytes) × (length (now ciphertext) ≤ maxBytes) ⌝ }
     ensures { λ r. ⌜ (r ≡ gcmTag (keyOf (now (ctx .entry))) (now (nonce .entry)) (now (header .entry) ++ now (metadata .entry)) (now (ciphertext .entry))) × (length r ≡ maxNt) ⌝ }
 {
-    let h = gcm::hash_key(ctx);
+    let h = gcm::hash_key(ctx, nonce, f);
     let mut t = [0u8; MAX_NT];
-    gcm::tag(ctx, &h, nonce, header, metadata, ciphertext, &mut t);
+    gcm::tag(ctx, &h, nonce, f, header, metadata, ciphertext, &mut t);
     t
 }
 
 // MAX_NT bytes of which the first Nt are the suite's tag of a ciphertext.
 fn tag_of(
     suite: Suite,
-    ctx: &aes::Context,
+    ctx: &aes_keys::Context,
     key: &[u8],
     nonce: &[u8],
+    f: &[u8],
     header: &[u8],
     metadata: &[u8],
     ciphertext: &[u8],
 ) -> [u8; MAX_NT]
     requires { ⌜ (Context (cipherKey suite (now key)) (now ctx)) × (length (now key) ≡ Nk suite) × (length (now nonce) ≡ Nn) ⌝ }
+    requires { ⌜ Fronted suite (keyOf (now ctx)) (now nonce) (now f) ⌝ }
     requires { ⌜ (length (now header) ≤ maxBytes) × (length (now metadata) ≤ maxBytes) × (length (now ciphertext) ≤ maxBytes) ⌝ }
     ensures { λ r. ⌜ (take (Nt suite) r ≡ tag suite (now (key .entry)) (now (nonce .entry)) (now (header .entry) ++ now (metadata .entry)) (now (ciphertext .entry))) × (length r ≡ maxNt) ⌝ }
 {
@@ -98,17 +104,44 @@ fn tag_of(
             let nt = suite.tag_size();
             ctr_tag(nt, key, nonce, header, metadata, ciphertext)
         }
-        Mode::Gcm => gcm_tag(ctx, nonce, header, metadata, ciphertext),
+        Mode::Gcm => gcm_tag(ctx, nonce, f, header, metadata, ciphertext),
+    }
+}
+
+// Writes the ciphertext of the input.
+fn cipher(
+    suite: Suite,
+    ctx: &aes_keys::Context,
+    nonce: &[u8],
+    f: &[u8],
+    input: &[u8],
+    out: &mut [u8],
+)
+    requires { ⌜ (Ready (now ctx)) × (length (now nonce) ≡ Nn) × (length (now input) ≤ maxBytes) × (length (now out) ≡ length (now input)) ⌝ }
+    requires { ⌜ Fronted suite (keyOf (now ctx)) (now nonce) (now f) ⌝ }
+    ensures { λ _. ⌜ now (out .exit) ≡ ctr (keyOf (now (ctx .entry))) (now (nonce .entry)) (firstCount (modeOf suite)) (now (input .entry)) ⌝ }
+{
+    match suite.mode() {
+        Mode::CtrHmac => gcm::counter::apply(ctx, nonce, 0, input, out),
+        Mode::Gcm => gcm::apply(ctx, nonce, f, input, out),
     }
 }
 
 // Writes the ciphertext of the input to the front of out.
-fn apply(suite: Suite, ctx: &aes::Context, nonce: &[u8], input: &[u8], out: &mut [u8])
+fn apply(
+    suite: Suite,
+    ctx: &aes_keys::Context,
+    nonce: &[u8],
+    f: &[u8],
+    input: &[u8],
+    out: &mut [u8],
+)
     requires { ⌜ (Ready (now ctx)) × (length (now nonce) ≡ Nn) × (length (now input) ≤ maxBytes) × (length (now input) ≤ length (now out)) ⌝ }
+    requires { ⌜ Fronted suite (keyOf (now ctx)) (now nonce) (now f) ⌝ }
     ensures { λ _. ⌜ now (out .exit) ≡ ctr (keyOf (now (ctx .entry))) (now (nonce .entry)) (firstCount (modeOf suite)) (now (input .entry)) ++ drop (length (now (input .entry))) (now (out .entry)) ⌝ }
 {
     let n = input.len();
-    gcm::counter::apply(ctx, nonce, first_count(suite), input, &mut out[0..n]);
+    cipher(suite, ctx, nonce, f, input, &mut out[0..n]);
 }
 
 // Fills out with the ciphertext of the plaintext and its tag. The associated data comes in two parts.
@@ -128,9 +161,11 @@ pub fn encrypt(
 {
     let n = plaintext.len();
     let nt = suite.tag_size();
-    let ctx = context(suite, key);
-    apply(suite, &ctx, nonce, plaintext, out);
-    let t = tag_of(suite, &ctx, key, nonce, header, metadata, &out[0..n]);
+    let mut ctx = aes_keys::blank();
+    context(&mut ctx, suite, key);
+    let f = front(suite, &ctx, nonce);
+    apply(suite, &ctx, nonce, &f, plaintext, out);
+    let t = tag_of(suite, &ctx, key, nonce, &f, header, metadata, &out[0..n]);
     octets::copy_at(out, n, &t[0..nt]);
 }
 
@@ -153,11 +188,13 @@ pub fn decrypt(
 {
     let nt = suite.tag_size();
     let n = sealed.len() - nt;
-    let ctx = context(suite, key);
-    let t = tag_of(suite, &ctx, key, nonce, header, metadata, &sealed[0..n]);
+    let mut ctx = aes_keys::blank();
+    context(&mut ctx, suite, key);
+    let f = front(suite, &ctx, nonce);
+    let t = tag_of(suite, &ctx, key, nonce, &f, header, metadata, &sealed[0..n]);
     if !octets::equal(&sealed[n..], &t[0..nt]) {
         return false;
     }
-    apply(suite, &ctx, nonce, &sealed[0..n], out);
+    apply(suite, &ctx, nonce, &f, &sealed[0..n], out);
     true
 }

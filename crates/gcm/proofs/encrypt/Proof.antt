@@ -5,7 +5,7 @@ use mathlib.Core.List.{_++_}
 use native.Mathlib.Omega.{arith}
 use lib.ListN.{length, drop}
 use lib.Seq.{length-take-le}
-use Rattle.aes.specs.inner.Context.{keyOf}
+use Rattle.aes_keys.specs.inner.Keys.{keyOf}
 use Rattle.gcm.proofs.Laws.{ctr-length}
 use Rattle.gcm.proofs.Tags.{front-length, sealed}
 use borrow.Author.Needs.{needs}
@@ -15,13 +15,13 @@ use Rattle.gcm.proofs.encrypt.Tie as tie
 -- ---- points of the program, each reached from a later one
 
 abbrev to-start-from-apply-arg : tie.After-apply-arg → tie.Start
-to-start-from-apply-arg c = c .before .before .before .before .before .before
+to-start-from-apply-arg c = c .before .before .before .before .before .before .before
 
 abbrev to-start-from-apply : tie.After-apply → tie.Start
-to-start-from-apply c = c .before .before .before .before .before .before .before
+to-start-from-apply c = c .before .before .before .before .before .before .before .before
 
 abbrev to-start-from-tag-arg : tie.After-tag-arg → tie.Start
-to-start-from-tag-arg c = c .before .before .before .before .before .before .before .before .before .before
+to-start-from-tag-arg c = c .before .before .before .before .before .before .before .before .before .before .before
 
 abbrev to-apply-from-mac : tie.After-mac → tie.After-apply
 to-apply-from-mac c = c .before .before .before .before
@@ -42,7 +42,7 @@ slice-aggregate-apply c =
 apply-requires : tie.Need-apply-requires
 apply-requires c κs =
     let at-start = to-start-from-apply-arg c in
-    let a = at-start in (a .pre .0 .0, (a .pre .1 .0, (length-take-le _ (a .args .out .now) (omega arith), omega arith)))
+    let a = at-start in ((a .pre .0 .0, a .pre .0 .1), (a .pre .1 .0, (length-take-le _ (a .args .out .now) (omega arith), a .pre .1 .1 .0 .2)))
 
 apply-length : (c : tie.After-tag-arg) → length (c .before .before .before .apply .last .1 .1 .1 .1 .0) ≡ length ((to-start-from-tag-arg c) .args .plaintext .now)
 apply-length c = ap length (c .before .before .before .apply .ensures) ∙ ctr-length _ _ _ _
@@ -58,7 +58,7 @@ tag-requires c κs =
     let p = a .pre in
     let x = a .args .plaintext .now in
     let n = front-length (at-apply .apply .last .1 .1 .1 .1 .0) (drop (length x) (a .args .out .now)) (length x) (apply-length (c .before)) in
-    (p .0, (p .1 .0, ((p .1 .1 .0 .0, p .1 .1 .0 .1, rw (← n) (p .1 .1 .0 .2)), refl)))
+    ((p .0 .1, p .0 .2), ((p .1 .1 .0 .0, p .1 .1 .0 .1, rw (← n) (p .1 .1 .0 .2)), refl))
 
 returns : tie.Need-returns
 returns c =

@@ -1,5 +1,3 @@
--- `gcm::hash_key` meets its contract: the hash key is read from the encrypted block of zeros.
--- Assumes nothing.
 use Rattle.gcm.proofs.Tags.{hash-key-made}
 use borrow.Author.Needs.{needs}
 use Rattle.gcm.proofs.hash_key.Statement.{statement}
@@ -7,24 +5,13 @@ use Rattle.gcm.proofs.hash_key.Tie as tie
 
 -- ---- points of the program, each reached from a later one
 
-abbrev to-encrypt-block : tie.After-expand → tie.After-encrypt-block
-to-encrypt-block c = c .before .before .before .before
+abbrev to-start : tie.After-expand → tie.Start
+to-start c = c .before .before .before .before
 
 -- ----
 
 returns : tie.Need-returns
-returns c =
-    let at-encrypt-block = to-encrypt-block c in
-    hash-key-made _ _ _ _ (at-encrypt-block .encrypt-block .ensures) (c .before .load .ensures) (c .expand .ensures)
+returns c = hash-key-made _ _ _ _ _ (to-start c .pre) (c .before .load .ensures) (c .expand .ensures)
 
 pub hash-key-spec : {M : Type 1} → statement M
-hash-key-spec =
-    tie.close
-    (tie.spec
-    (λ c. search needs)
-    (λ c. search needs)
-    (λ c κs. search needs)
-    (λ c. search needs)
-    (λ c κs. search needs)
-    (λ c κs. search needs)
-    returns)
+hash-key-spec = tie.close (tie.spec (λ c κs. search needs) (λ c κs. search needs) returns)

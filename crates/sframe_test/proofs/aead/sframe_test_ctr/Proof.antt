@@ -5,7 +5,7 @@ use mathlib.Core.Logic.{inl, inr}
 use native.Mathlib.Omega.{arith}
 use lib.Seq.{length-take-le}
 use borrow.Author.Tests.{not-true, not-false}
-use Rattle.aes.proofs.Laws.{context-key, context-ready}
+use Rattle.aes_keys.proofs.Keys16.{context-key, context-ready}
 use Rattle.sframe_test.proofs.Steps.{key-size}
 use borrow.Author.Needs.{needs}
 use Rattle.sframe_test.proofs.aead.sframe_test_ctr.Statement.{statement}
@@ -16,11 +16,11 @@ use Rattle.sframe_test.proofs.aead.sframe_test_ctr.Tie as tie
 abbrev to-start : tie.After-apply-arg → tie.Start
 to-start c = c .before .before .before .before .before .before .before .before .before .before .before .before .before
 
-abbrev to-expand : tie.After-slice-known2 → tie.After-expand
-to-expand c = c .before .before .before .before .before
+abbrev to-context : tie.After-slice-known2 → tie.After-context
+to-context c = c .before .before .before .before .before
 
-abbrev to-key-from-expand : tie.After-expand → tie.Else1
-to-key-from-expand c = c .before .before .before .before .before
+abbrev to-key-from-context : tie.After-context → tie.Else1
+to-key-from-context c = c .before .before .before .before .before
 
 abbrev to-key-from-room : tie.Else5 → tie.Else1
 to-key-from-room c = c .before .before .before .before
@@ -42,8 +42,8 @@ returns-4 c = inr (refl, (λ t. omega arith), refl)
 returns-5 : tie.Need-returns-5
 returns-5 c = inr (refl, (λ t. omega arith), refl)
 
-expand-requires : tie.Need-expand-requires
-expand-requires c κs = let at-key = to-key-from-room c in key-size (at-key .before .key-taken .ensures .holds (not-false _ (at-key .if1 .left)))
+context-requires : tie.Need-context-requires
+context-requires c κs = let at-key = to-key-from-room c in key-size (at-key .before .key-taken .ensures .holds (not-false _ (at-key .if1 .left)))
 
 slice-aggregate-apply : tie.Need-slice-aggregate-apply
 slice-aggregate-apply c =
@@ -53,13 +53,13 @@ slice-aggregate-apply c =
 apply-requires : tie.Need-apply-requires
 apply-requires c κs =
     let at-start = to-start c in
-    (context-ready (c .before .before .expand .ensures), (search needs, (length-take-le _ (at-start .args .out .now) (omega arith), omega arith)))
+    (context-ready (c .before .before .context .ensures), (search needs, (length-take-le _ (at-start .args .out .now) (omega arith), omega arith)))
 
 returns-6 : tie.Need-returns-6
 returns-6 c =
-    let at-expand = to-expand c in
-    let at-key = to-key-from-expand at-expand in
-    inl (refl, record { keyed = at-key .before .key-taken .ensures .holds (not-false _ (at-key .if1 .left)); nonced = omega arith; short = omega arith; counted = omega arith; room = omega arith }, rw (c .before .before .apply .ensures, context-key (at-expand .expand .ensures)))
+    let at-context = to-context c in
+    let at-key = to-key-from-context at-context in
+    inl (refl, record { keyed = at-key .before .key-taken .ensures .holds (not-false _ (at-key .if1 .left)); nonced = omega arith; short = omega arith; counted = omega arith; room = omega arith }, rw (c .before .before .apply .ensures, context-key (at-context .context .ensures)))
 
 pub sframe-test-ctr-spec : {M : Type 1} → statement M
-sframe-test-ctr-spec = tie.close (tie.spec (λ c κs. search needs) returns returns-2 returns-3 returns-4 returns-5 expand-requires (λ c. search needs) slice-aggregate-apply apply-requires (λ c. search needs) returns-6)
+sframe-test-ctr-spec = tie.close (tie.spec (λ c κs. search needs) returns returns-2 returns-3 returns-4 returns-5 context-requires (λ c. search needs) slice-aggregate-apply apply-requires (λ c. search needs) returns-6)

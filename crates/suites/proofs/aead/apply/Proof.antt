@@ -1,50 +1,30 @@
-use mathlib.Core.Path.{_∙_, ap}
-use native.Mathlib.Omega.{arith}
-use borrow.Author.Needs.{needs}
-use Rattle.aes.specs.inner.Context.{keyOf}
-use Rattle.gcm.specs.Counter.{ctr}
-use Rattle.gcm.proofs.Laws.{counts-fit}
 use Rattle.suites.proofs.Steps.{front-size, front-lent}
+use borrow.Author.Needs.{needs}
 use Rattle.suites.proofs.aead.apply.Statement.{statement}
 use Rattle.suites.proofs.aead.apply.Tie as tie
 
 -- ---- points of the program, each reached from a later one
 
-abbrev to-start-from-first-count : tie.After-first-count → tie.Start
-to-start-from-first-count c = c .before .before .before .before
+abbrev to-start : tie.After-slice-known2 → tie.Start
+to-start c = c .before .before .before .before .before .before .before .before
 
-abbrev to-start-from-apply-arg : tie.After-apply-arg → tie.Start
-to-start-from-apply-arg c = c .before .before .before .before .before
-
-abbrev to-first-count : tie.After-slice-known2 → tie.After-first-count
-to-first-count c = c .before .before .before .before
+abbrev to-start-from-arg : tie.After-cipher-arg → tie.Start
+to-start-from-arg c = c .before .before .before .before .before
 
 -- ----
 
-apply-requires : tie.Need-apply-requires
-apply-requires c κs =
-    let at-start = to-start-from-apply-arg c in
-    let a = at-start .args in
-    let pre = at-start .pre in
-    let n = front-size (a .out .now) _ (pre .3) in
-    (pre .0, (pre .1, (n, omega (arith, counts-fit _ (pre .2), c .before .first-count .ensures .1))))
+cipher-requires : tie.Need-cipher-requires
+cipher-requires c κs =
+    let a = to-start-from-arg c in
+    let p = a .pre in
+    ((p .0 .0, p .0 .1, p .0 .2, front-size (a .args .out .now) _ (p .0 .3)), p .1)
 
 returns : tie.Need-returns
 returns c =
-    let at-first-count = to-first-count c in
-    let at-start = to-start-from-first-count at-first-count in
-    let a = at-start .args in
-    front-lent (a .out .now) _ _ _ (at-start .pre .3)
-    (c .before .before .apply .ensures ∙ ap (λ i. ctr (keyOf (a .ctx .now)) (a .nonce .now) i (a .input .now)) (at-first-count .first-count .ensures .0))
+    let a = to-start c in
+    front-lent (a .args .out .now) _ _ _ (a .pre .0 .3) (c .before .before .cipher .ensures)
 
 pub apply-spec : {M : Type 1} → statement M
 apply-spec =
     tie.close
-    (tie.spec
-    (λ c κs. search needs)
-    (λ c. search needs)
-    (λ c. search needs)
-    (λ c. search needs)
-    apply-requires
-    (λ c. search needs)
-    returns)
+    (tie.spec (λ c. search needs) (λ c. search needs) (λ c. search needs) cipher-requires (λ c. search needs) returns)

@@ -1,7 +1,7 @@
 use mathlib.Core.Path.{sym, _∙_}
 use native.Mathlib.Omega.{arith}
 use borrow.Author.Needs.{needs}
-use Rattle.aes.proofs.Laws.{context-key, context-ready}
+use Rattle.aes_keys.proofs.Keys16.{context-key}
 use Rattle.suites.proofs.Laws.{ctr-sizes}
 use Rattle.suites.proofs.Steps.{tag-ctr, tag-gcm}
 use Rattle.suites.proofs.aead.tag_of.Statement.{statement}
@@ -10,19 +10,19 @@ use Rattle.suites.proofs.aead.tag_of.Tie as tie
 -- ---- points of the program, each reached from a later one
 
 abbrev to-start-from-mode : tie.After-mode → tie.Start
-to-start-from-mode c = c .before .before .before .before .before .before
+to-start-from-mode c = c .before .before .before .before .before .before .before
 
 abbrev to-start-from-tag-size : tie.After-tag-size → tie.Start
-to-start-from-tag-size c = c .before .before .before .before .before .before .before .before .before
+to-start-from-tag-size c = c .before .before .before .before .before .before .before .before .before .before
 
 abbrev to-mode : tie.After-ctr-tag → tie.After-mode
 to-mode c = c .before .before .before .before
 
 abbrev to-start-from-enum-told2 : tie.After-enum-told2 → tie.Start
-to-start-from-enum-told2 c = c .before .before .before .before .before .before .before .before
+to-start-from-enum-told2 c = c .before .before .before .before .before .before .before .before .before
 
 abbrev to-start-from-gcm-tag : tie.After-gcm-tag → tie.Start
-to-start-from-gcm-tag c = c .before .before .before .before .before .before .before .before .before
+to-start-from-gcm-tag c = c .before .before .before .before .before .before .before .before .before .before
 
 -- ----
 
@@ -32,12 +32,12 @@ ctr-tag-requires c κs =
     let a = at-start .args in
     let m = sym (c .before .before .before .mode .ensures) ∙ c .before .enum-told .given .1 in
     let z = ctr-sizes (a .suite) m in
-    ((at-start .pre .0 .1 ∙ z .0, at-start .pre .0 .2, omega (arith, z .1, c .tag-size .ensures)), at-start .pre .1)
+    ((at-start .pre .0 .1 ∙ z .0, at-start .pre .0 .2, omega (arith, z .1, c .tag-size .ensures)), at-start .pre .1 .1)
 
 gcm-tag-requires : tie.Need-gcm-tag-requires
 gcm-tag-requires c κs =
     let at-start = to-start-from-enum-told2 c in
-    ((context-ready (at-start .pre .0 .0), at-start .pre .0 .2), at-start .pre .1)
+    (at-start .pre .1 .0 (sym (c .before .before .mode .ensures) ∙ c .enum-told2 .given .1), at-start .pre .1 .1)
 
 returns : tie.Need-returns
 returns c =

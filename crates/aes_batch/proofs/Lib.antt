@@ -1,0 +1,4 @@
+pub mod Counting
+pub mod Ciphers
+pub mod Unslicing
+pub mod Streams

@@ -1,0 +1,2 @@
+-- What the contracts of the code cite, and no definition that a reader must believe.
+pub mod Keys

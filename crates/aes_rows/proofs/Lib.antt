@@ -1,0 +1,3 @@
+pub mod Sets
+pub mod Mixing
+pub mod Rounds16

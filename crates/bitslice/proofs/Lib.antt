@@ -1,0 +1,6 @@
+pub mod Bits
+pub mod Shifts
+pub mod SBox
+pub mod RowSums
+pub mod Turns
+pub mod Spreads

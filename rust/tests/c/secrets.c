@@ -1,0 +1,111 @@
+/*
+ * Adds, seals and opens under every suite with secrets marked as undefined, so that valgrind tells of each address and
+ * each branch that depends on one. scripts/secrets builds and runs it, and judges what valgrind says.
+ *
+ * Secret are the base key, with all that is derived from it, and the plaintext. Frames are public once they are sealed.
+ * Add and Seal must add nothing to valgrind's count. Open adds its verdict on the tag, once where it is found and once
+ * where it is answered, the same for every suite and every length.
+ */
+#include <stdio.h>
+#include <string.h>
+#include <valgrind/memcheck.h>
+
+#include "sframe.h"
+
+enum { BASE_KEY = 32, LONGEST = 1200, METADATA = 20, MARK_SENDING = 1, MARK_RECEIVING = 2 };
+
+static uint8_t sending[SFRAME_STORE_SIZE(1)], receiving[SFRAME_STORE_SIZE(1)], base_key[BASE_KEY];
+static uint8_t plaintext[LONGEST], metadata[METADATA], frame[SFRAME_FRAME_ROOM(LONGEST)], opened[LONGEST];
+
+/* How often Open may look at its verdict. */
+enum { VERDICTS = 2 };
+
+/* What valgrind has counted since it was last asked. */
+static unsigned counted(void)
+{
+    static unsigned before;
+    unsigned now = VALGRIND_COUNT_ERRORS, more = now - before;
+    before = now;
+    return more;
+}
+
+static int failed(const char *what, uint64_t suite, size_t length, uint32_t answer)
+{
+    printf("suite %d, %zu bytes: %s answered %u\n", (int)suite, length, what, (unsigned)answer);
+    return 1;
+}
+
+/* A store with one key for sending. Suite 3 is not added for sending any more; a stored key of it still seals. */
+static uint32_t add_sending(uint64_t suite)
+{
+    uint32_t answer;
+    if (suite != SFRAME_AES_128_CTR_HMAC_SHA256_32)
+        return sframe_add_sending(sending, sizeof sending, 7, suite, base_key, sizeof base_key);
+    answer = sframe_add_receiving(sending, sizeof sending, 7, suite, base_key, sizeof base_key);
+    sending[0] = MARK_SENDING;
+    return answer;
+}
+
+static int told(const char *what, uint64_t suite, size_t length, unsigned times)
+{
+    printf("suite %d, %zu bytes: %s depends on a secret %u times\n", (int)suite, length, what, times);
+    return 1;
+}
+
+static int round_trip(uint64_t suite, size_t length)
+{
+    static unsigned verdicts;
+    size_t n = 0, m = 0;
+    uint32_t answer;
+    unsigned times;
+    int bad = 0;
+
+    VALGRIND_MAKE_MEM_UNDEFINED(plaintext, sizeof plaintext);
+    answer = sframe_seal(sending, sizeof sending, 7, metadata, sizeof metadata, plaintext, length, frame, sizeof frame, &n);
+    times = counted();
+    if (answer != SFRAME_DONE)
+        return failed("seal", suite, length, answer);
+    if (times != 0)
+        bad += told("seal", suite, length, times);
+    VALGRIND_MAKE_MEM_DEFINED(frame, sizeof frame);
+    answer = sframe_open(receiving, sizeof receiving, frame, n, metadata, sizeof metadata, opened, sizeof opened, &m);
+    times = counted();
+    if (answer != SFRAME_DONE || m != length)
+        return failed("open", suite, length, answer);
+    if (verdicts == 0)
+        verdicts = times;
+    if (times == 0 || times > VERDICTS || times != verdicts)
+        bad += told("open", suite, length, times);
+    VALGRIND_MAKE_MEM_DEFINED(opened, sizeof opened);
+    VALGRIND_MAKE_MEM_DEFINED(plaintext, sizeof plaintext);
+    if (memcmp(opened, plaintext, length) != 0)
+        return failed("open, another plaintext,", suite, length, answer);
+    return bad;
+}
+
+int main(void)
+{
+    static const size_t lengths[] = {0, 1, 16, 200, 224, 225, LONGEST};
+    uint64_t suite;
+    size_t i;
+    int bad = 0;
+
+    for (suite = SFRAME_AES_128_CTR_HMAC_SHA256_80; suite <= SFRAME_AES_256_GCM_SHA512_128; suite++) {
+        uint32_t answer;
+        memset(base_key, 0x5a, sizeof base_key);
+        VALGRIND_MAKE_MEM_UNDEFINED(base_key, sizeof base_key);
+        sframe_make(sending, sizeof sending);
+        sframe_make(receiving, sizeof receiving);
+        answer = add_sending(suite);
+        if (answer != SFRAME_DONE)
+            bad += failed("add for sending", suite, 0, answer);
+        answer = sframe_add_receiving(receiving, sizeof receiving, 7, suite, base_key, sizeof base_key);
+        if (answer != SFRAME_DONE)
+            bad += failed("add for receiving", suite, 0, answer);
+        if (counted() != 0)
+            bad += told("add", suite, 0, 1);
+        for (i = 0; i < sizeof lengths / sizeof lengths[0]; i++)
+            bad += round_trip(suite, lengths[i]);
+    }
+    return bad != 0;
+}
