@@ -29,15 +29,14 @@ either (suc (suc x)) h = absurd (omega arith)
 
 -- ---- words of two blocks
 
-pub gather-start : (q : List ℕ) → length q ≡ 32 → Gathered 0 q q
-gather-start q l =
+pub gather-start : (q t : List ℕ) → length t ≡ 32 → Gathered 0 q t
+gather-start q t l =
     record {
       sized = l;
       even-first = λ i h. absurd (omega arith);
       even-second = λ i h. absurd (omega arith);
       odd-first = λ i h. absurd (omega arith);
       odd-second = λ i h. absurd (omega arith);
-      left = λ k h. refl;
     }
 
 -- Four words written.
@@ -59,11 +58,6 @@ module _ (t : List ℕ) (i a b c d : ℕ) (l : length t ≡ 32) (h : i < 8) wher
       getD-set-other three (4 * i + 3) k d 0 (omega arith) ∙ getD-set-other two (4 * i + 2) k c 0 (omega arith)
       ∙ getD-set-other one (4 * i + 1) k b 0 (omega arith) ∙ getD-set-other t (4 * i) k a 0 (omega arith)
 
-  four-above : (k : ℕ) → 4 * i + 4 ≤ k → getD four k 0 ≡ getD t k 0
-  four-above k g =
-      getD-set-other three (4 * i + 3) k d 0 (omega arith) ∙ getD-set-other two (4 * i + 2) k c 0 (omega arith)
-      ∙ getD-set-other one (4 * i + 1) k b 0 (omega arith) ∙ getD-set-other t (4 * i) k a 0 (omega arith)
-
   four-0 : getD four (4 * i) 0 ≡ a
   four-0 =
       getD-set-other three (4 * i + 3) (4 * i) d 0 (omega arith) ∙ getD-set-other two (4 * i + 2) (4 * i) c 0 (omega arith)
@@ -81,19 +75,14 @@ module _ (t : List ℕ) (i a b c d : ℕ) (l : length t ≡ 32) (h : i < 8) wher
   four-3 : getD four (4 * i + 3) 0 ≡ d
   four-3 = getD-set-same three (4 * i + 3) d 0 (simp length-set (omega arith))
 
-  pub gather-next : (q : List ℕ) → Gathered i q t → a ≡ half t i 4 → b ≡ half t i 0 → c ≡ half t i 5 → d ≡ half t i 1 → Gathered (i + 1) q four
+  pub gather-next : (q : List ℕ) → Gathered i q t → a ≡ half q i 4 → b ≡ half q i 0 → c ≡ half q i 5 → d ≡ half q i 1 → Gathered (i + 1) q four
   gather-next q g ea eb ec ed =
-      let e0 = g .left (4 * i) (omega arith) in
-      let e1 = g .left (4 * i + 1) (omega arith) in
-      let e2 = g .left (4 * i + 2) (omega arith) in
-      let e3 = g .left (4 * i + 3) (omega arith) in
       record {
         sized = simp length-set l;
-        even-first = below-more _ _ (λ k m. four-below (4 * k) (omega arith) ∙ g .even-first k m) (four-0 ∙ ea ∙ rw (e0, e1, e2, e3));
-        even-second = below-more _ _ (λ k m. four-below (4 * k + 1) (omega arith) ∙ g .even-second k m) (four-1 ∙ eb ∙ rw (e0, e1, e2, e3));
-        odd-first = below-more _ _ (λ k m. four-below (4 * k + 2) (omega arith) ∙ g .odd-first k m) (four-2 ∙ ec ∙ rw (e0, e1, e2, e3));
-        odd-second = below-more _ _ (λ k m. four-below (4 * k + 3) (omega arith) ∙ g .odd-second k m) (four-3 ∙ ed ∙ rw (e0, e1, e2, e3));
-        left = λ k m. four-above k (omega arith) ∙ g .left k (omega arith);
+        even-first = below-more _ _ (λ k m. four-below (4 * k) (omega arith) ∙ g .even-first k m) (four-0 ∙ ea);
+        even-second = below-more _ _ (λ k m. four-below (4 * k + 1) (omega arith) ∙ g .even-second k m) (four-1 ∙ eb);
+        odd-first = below-more _ _ (λ k m. four-below (4 * k + 2) (omega arith) ∙ g .odd-first k m) (four-2 ∙ ec);
+        odd-second = below-more _ _ (λ k m. four-below (4 * k + 3) (omega arith) ∙ g .odd-second k m) (four-3 ∙ ed);
       }
 
 -- ---- words as bytes
@@ -162,7 +151,7 @@ two-columns a b h =
 
 -- ---- rows of bytes are the columns of blocks
 
-row-word : (t : List ℕ) (r i : ℕ) → i < 8 → getD (wordsOf (rowAt t r)) i 0 ≡ getD t (4 * i + r) 0
+row-word : (t : List ℕ) (r i : ℕ) → i < 8 → getD (wordsOf (rowAt t r)) i 0 ≡ getD t (8 * r + i) 0
 unfolding rowAt
 row-word t r zero h = refl
 row-word t r (suc zero) h = refl
@@ -176,18 +165,18 @@ row-word t r (suc (suc (suc (suc (suc (suc (suc (suc i)))))))) h = absurd (omega
 
 module _ (q t : List ℕ) (e : Each Transposing 4 q t) (i : ℕ) (hi : i < 8) where
   -- Byte b of word i of row r.
-  byte-there : (r b c l : ℕ) → r < 4 → b < 8 → 8 * b + i ≡ place c l → octet b (getD t (4 * i + r) 0) ≡ laneByte (place c l) (rowAt q r)
+  byte-there : (r b c l : ℕ) → r < 4 → b < 8 → 8 * b + i ≡ place c l → octet b (getD t (8 * r + i) 0) ≡ laneByte (place c l) (rowAt q r)
   byte-there r b c l hr hb f =
       ap (octet b) (sym (row-word t r i hi)) ∙ e .done r hr .each i b hi hb ∙ ap (λ (j : ℕ). laneByte j (rowAt q r)) f
 
   abbrev gathered : ℕ → ℕ
-  gathered k = transposition.column k (getD t (4 * i) 0) (getD t (4 * i + 1) 0) (getD t (4 * i + 2) 0) (getD t (4 * i + 3) 0)
+  gathered k = transposition.column k (getD t i 0) (getD t (8 + i) 0) (getD t (16 + i) 0) (getD t (24 + i) 0)
 
   column-there : (b c l : ℕ) → b < 8 → 8 * b + i ≡ place c l → gathered b ≡ column q l c
   unfolding transposition.column column word
   column-there b c l hb f =
-      let z : 4 * i + 0 ≡ 4 * i = omega arith in
-      let first : octet b (getD t (4 * i) 0) ≡ laneByte (place c l) (rowAt q 0) = rw z at (byte-there 0 b c l (omega arith) hb f) in
+      let z : 8 * 0 + i ≡ i = omega arith in
+      let first : octet b (getD t i 0) ≡ laneByte (place c l) (rowAt q 0) = rw z at (byte-there 0 b c l (omega arith) hb f) in
       rw (first, byte-there 1 b c l (omega arith) hb f, byte-there 2 b c l (omega arith) hb f, byte-there 3 b c l (omega arith) hb f)
 
   gathered-lt : (k : ℕ) → gathered k < 2 ^ 32

@@ -117,18 +117,18 @@ fn transpose(q: &mut [u64])
 }
 
 // Rows of bytes into the words of blocks, two blocks at a time.
-fn gather(q: &mut [u64])
-    requires { ⌜ length (now q) ≡ 32 ⌝ }
-    ensures { λ _. ⌜ Gathered 8 (now (q .entry)) (now (q .exit)) ⌝ }
+fn gather(w: &mut [u64], q: &[u64])
+    requires { ⌜ (length (now w) ≡ 32) × (length (now q) ≡ 32) ⌝ }
+    ensures { λ _. ⌜ Gathered 8 (now (q .entry)) (now (w .exit)) ⌝ }
 {
     let mut i = 0;
     while i < 8 {
         let k = 4 * i;
-        let f = bit_transpose::columns(q[k], q[k + 1], q[k + 2], q[k + 3]);
-        q[k] = f.a;
-        q[k + 1] = f.b;
-        q[k + 2] = f.c;
-        q[k + 3] = f.d;
+        let f = bit_transpose::columns(q[i], q[8 + i], q[16 + i], q[24 + i]);
+        w[k] = f.a;
+        w[k + 1] = f.b;
+        w[k + 2] = f.c;
+        w[k + 3] = f.d;
         i += 1;
     }
 }
@@ -152,9 +152,10 @@ fn unslice(q: &mut [u64]) -> Batch
     ensures { λ r. ⌜ Unsliced (now (q .entry)) r ⌝ }
 {
     transpose(q);
-    gather(q);
+    let mut w = [0u64; 32];
+    gather(&mut w, q);
     let mut out = [0u8; BYTES];
-    write(&mut out, q);
+    write(&mut out, &w);
     out
 }
 

@@ -15,25 +15,25 @@ use Rattle.aes_rows.specs.Rows.{rowAt, RowSet, Each}
 -- The first n words of a row, written in their order.
 abbrev stored : ℕ → List ℕ → ℕ → List ℕ → List ℕ
 stored zero v r q = q
-stored (suc n) v r q = set (stored n v r q) (4 * n + r) (getD v n 0)
+stored (suc n) v r q = set (stored n v r q) (8 * r + n) (getD v n 0)
 
 module _ (v : List ℕ) (r : ℕ) (q : List ℕ) where
   stored-length : (n : ℕ) → length (stored n v r q) ≡ length q
   stored-length zero = refl
-  stored-length (suc n) = length-set (stored n v r q) (4 * n + r) (getD v n 0) ∙ stored-length n
+  stored-length (suc n) = length-set (stored n v r q) (8 * r + n) (getD v n 0) ∙ stored-length n
 
-  stored-same : (n i : ℕ) → i < n → r < 4 → 4 * n ≤ length q → getD (stored n v r q) (4 * i + r) 0 ≡ getD v i 0
-  stored-same zero i h k l = absurd (omega arith)
-  stored-same (suc n) i h k l =
+  stored-same : (n i : ℕ) → i < n → r < 4 → 32 ≤ length q → n ≤ 8 → getD (stored n v r q) (8 * r + i) 0 ≡ getD v i 0
+  stored-same zero i h k l m = absurd (omega arith)
+  stored-same (suc n) i h k l g =
       ⊎-elim
-      (λ e. rw e (getD-set-same (stored n v r q) (4 * n + r) (getD v n 0) 0 (rw (stored-length n) (omega arith))))
-      (λ m. getD-set-other (stored n v r q) (4 * n + r) (4 * i + r) (getD v n 0) 0 (omega arith) ∙ stored-same n i m k (omega arith))
+      (λ e. rw e (getD-set-same (stored n v r q) (8 * r + n) (getD v n 0) 0 (rw (stored-length n) (omega arith))))
+      (λ m. getD-set-other (stored n v r q) (8 * r + n) (8 * r + i) (getD v n 0) 0 (omega arith) ∙ stored-same n i m k l (omega arith))
       (eq-or-lt-of-le (le-of-suc-le-suc h))
 
-  stored-other : (n i s : ℕ) → r < 4 → s < 4 → (s ≡ r → ⊥) → getD (stored n v r q) (4 * i + s) 0 ≡ getD q (4 * i + s) 0
+  stored-other : (n i s : ℕ) → n ≤ 8 → i < 8 → (s ≡ r → ⊥) → getD (stored n v r q) (8 * s + i) 0 ≡ getD q (8 * s + i) 0
   stored-other zero i s h k d = refl
   stored-other (suc n) i s h k d =
-      getD-set-other (stored n v r q) (4 * n + r) (4 * i + s) (getD v n 0) 0 (omega arith) ∙ stored-other n i s h k d
+      getD-set-other (stored n v r q) (8 * r + n) (8 * s + i) (getD v n 0) 0 (omega arith) ∙ stored-other n i s (omega arith) k d
 
 -- The eight words of a row, as the code writes them.
 module _ (q : List ℕ) (r : ℕ) (p : Planes) (l : length q ≡ 32) (h : r < 4) where
@@ -47,25 +47,25 @@ module _ (q : List ℕ) (r : ℕ) (p : Planes) (l : length q ≡ 32) (h : r < 4)
         sized = stored-length v r q 8 ∙ l;
         same =
             rw (
-              stored-same v r q 8 0 (omega arith) h (omega arith),
-              stored-same v r q 8 1 (omega arith) h (omega arith),
-              stored-same v r q 8 2 (omega arith) h (omega arith),
-              stored-same v r q 8 3 (omega arith) h (omega arith),
-              stored-same v r q 8 4 (omega arith) h (omega arith),
-              stored-same v r q 8 5 (omega arith) h (omega arith),
-              stored-same v r q 8 6 (omega arith) h (omega arith),
-              stored-same v r q 8 7 (omega arith) h (omega arith),
+              stored-same v r q 8 0 (omega arith) h (omega arith) (omega arith),
+              stored-same v r q 8 1 (omega arith) h (omega arith) (omega arith),
+              stored-same v r q 8 2 (omega arith) h (omega arith) (omega arith),
+              stored-same v r q 8 3 (omega arith) h (omega arith) (omega arith),
+              stored-same v r q 8 4 (omega arith) h (omega arith) (omega arith),
+              stored-same v r q 8 5 (omega arith) h (omega arith) (omega arith),
+              stored-same v r q 8 6 (omega arith) h (omega arith) (omega arith),
+              stored-same v r q 8 7 (omega arith) h (omega arith) (omega arith),
             );
         others = λ s k d.
             rw (
-              stored-other v r q 8 0 s h k d,
-              stored-other v r q 8 1 s h k d,
-              stored-other v r q 8 2 s h k d,
-              stored-other v r q 8 3 s h k d,
-              stored-other v r q 8 4 s h k d,
-              stored-other v r q 8 5 s h k d,
-              stored-other v r q 8 6 s h k d,
-              stored-other v r q 8 7 s h k d,
+              stored-other v r q 8 0 s (omega arith) (omega arith) d,
+              stored-other v r q 8 1 s (omega arith) (omega arith) d,
+              stored-other v r q 8 2 s (omega arith) (omega arith) d,
+              stored-other v r q 8 3 s (omega arith) (omega arith) d,
+              stored-other v r q 8 4 s (omega arith) (omega arith) d,
+              stored-other v r q 8 5 s (omega arith) (omega arith) d,
+              stored-other v r q 8 6 s (omega arith) (omega arith) d,
+              stored-other v r q 8 7 s (omega arith) (omega arith) d,
             );
       }
 

@@ -2,7 +2,7 @@
 -- Assumes nothing.
 use mathlib.Core.Path.{_≡_}
 use mathlib.Core.List.{List}
-use Prim.Native.Nat.{ℕ, _+_, _≤_, _<_}
+use Prim.Native.Nat.{ℕ, _+_, _*_, _≤_, _<_}
 use lib.ListN.{length, getD}
 use Rattle.bitslice.specs.declared.Planes.{Planes}
 use Rattle.bitslice.specs.Lanes.{Substituted, Sum}
@@ -11,14 +11,14 @@ use Rattle.bitslice.specs.Lanes.{Substituted, Sum}
 unfoldable pub rowAt : List ℕ → ℕ → Planes
 rowAt q r =
     record {
-      p0 = getD q (0 + r) 0;
-      p1 = getD q (4 + r) 0;
-      p2 = getD q (8 + r) 0;
-      p3 = getD q (12 + r) 0;
-      p4 = getD q (16 + r) 0;
-      p5 = getD q (20 + r) 0;
-      p6 = getD q (24 + r) 0;
-      p7 = getD q (28 + r) 0;
+      p0 = getD q (8 * r + 0) 0;
+      p1 = getD q (8 * r + 1) 0;
+      p2 = getD q (8 * r + 2) 0;
+      p3 = getD q (8 * r + 3) 0;
+      p4 = getD q (8 * r + 4) 0;
+      p5 = getD q (8 * r + 5) 0;
+      p6 = getD q (8 * r + 6) 0;
+      p7 = getD q (8 * r + 7) 0;
     }
 
 -- t is q with p as row r.

@@ -1,6 +1,6 @@
 // The state of sixteen blocks of AES in bit planes, and the steps of a round on all of them at once.
 //
-// A state is 32 words: word 4 i + r has bit i of row r. In a word stand the four columns of sixteen blocks, 16 lanes for
+// A state is 32 words: word 8 r + i has bit i of row r. In a word stand the four columns of sixteen blocks, 16 lanes for
 // each column, the last column in the lowest lanes. Round keys have the same form.
 use bitslice::Planes;
 ghost use mathlib.Core.Path.{_≡_};
@@ -15,15 +15,16 @@ pub fn load_row(q: &[u64], r: usize) -> Planes
     requires { ⌜ (length (now q) ≡ 32) × (r < 4) ⌝ }
     ensures { λ p. ⌜ p ≡ rowAt (now (q .entry)) r ⌝ }
 {
+    let k = 8 * r;
     Planes {
-        p0: q[0 + r],
-        p1: q[4 + r],
-        p2: q[8 + r],
-        p3: q[12 + r],
-        p4: q[16 + r],
-        p5: q[20 + r],
-        p6: q[24 + r],
-        p7: q[28 + r],
+        p0: q[k + 0],
+        p1: q[k + 1],
+        p2: q[k + 2],
+        p3: q[k + 3],
+        p4: q[k + 4],
+        p5: q[k + 5],
+        p6: q[k + 6],
+        p7: q[k + 7],
     }
 }
 
@@ -32,14 +33,15 @@ pub fn store_row(q: &mut [u64], r: usize, p: Planes)
     requires { ⌜ (length (now q) ≡ 32) × (r < 4) ⌝ }
     ensures { λ _. ⌜ RowSet (now (q .entry)) r p (now (q .exit)) ⌝ }
 {
-    q[0 + r] = p.p0;
-    q[4 + r] = p.p1;
-    q[8 + r] = p.p2;
-    q[12 + r] = p.p3;
-    q[16 + r] = p.p4;
-    q[20 + r] = p.p5;
-    q[24 + r] = p.p6;
-    q[28 + r] = p.p7;
+    let k = 8 * r;
+    q[k + 0] = p.p0;
+    q[k + 1] = p.p1;
+    q[k + 2] = p.p2;
+    q[k + 3] = p.p3;
+    q[k + 4] = p.p4;
+    q[k + 5] = p.p5;
+    q[k + 6] = p.p6;
+    q[k + 7] = p.p7;
 }
 
 // SubBytes.

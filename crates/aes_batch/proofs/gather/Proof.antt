@@ -9,22 +9,22 @@ use Rattle.aes_batch.proofs.gather.Statement.{statement}
 use Rattle.aes_batch.proofs.gather.Tie as tie
 
 abbrev Inv-loop : tie.InvT-loop
-Inv-loop q₀ i₀ q i = (i ≤ 8) × (length q ≡ 32) × Gathered i q₀ q
+Inv-loop w₀ q i₀ w i = (i ≤ 8) × (length w ≡ 32) × (length q ≡ 32) × Gathered i q w
 
 abbrev μ-loop : tie.MeasureT-loop
-μ-loop q₀ i₀ q i = 8 - i
+μ-loop w₀ q i₀ w i = 8 - i
 
 loop-holds : tie.Need-loop-holds Inv-loop μ-loop
-loop-holds c = (omega arith, c .before .pre, gather-start (c .before .args .q .now) (c .before .pre))
+loop-holds c = let p = c .before .before .pre in (omega arith, p .0, p .1, gather-start _ (c .before .before .args .w .now) (p .0))
 
-slice-write-q-2 : tie.Need-slice-write-q-2 Inv-loop μ-loop
-slice-write-q-2 c = simp length-set (search needs)
+slice-write-w-2 : tie.Need-slice-write-w-2 Inv-loop μ-loop
+slice-write-w-2 c = simp length-set (search needs)
 
-slice-write-q-3 : tie.Need-slice-write-q-3 Inv-loop μ-loop
-slice-write-q-3 c = simp length-set (search needs)
+slice-write-w-3 : tie.Need-slice-write-w-3 Inv-loop μ-loop
+slice-write-w-3 c = simp length-set (search needs)
 
-slice-write-q-4 : tie.Need-slice-write-q-4 Inv-loop μ-loop
-slice-write-q-4 c = simp length-set (search needs)
+slice-write-w-4 : tie.Need-slice-write-w-4 Inv-loop μ-loop
+slice-write-w-4 c = simp length-set (search needs)
 
 -- ---- points of the program, each reached from a later one
 
@@ -38,11 +38,11 @@ loop-again c =
     let at = to-loop c in
     let e = c .columns .ensures in
     let next =
-    gather-next (at .loop .q) (at .loop .i) _ _ _ _ (at .loop .inv .1) (omega arith) _ (at .loop .inv .2) (e .0 .0) (e .0 .1) (e .1 .0) (e .1 .1) in
-    (omega arith, next .sized, next)
+    gather-next (at .loop .w) (at .loop .i) _ _ _ _ (at .loop .inv .1) (omega arith) _ (at .loop .inv .3) (e .0 .0) (e .0 .1) (e .1 .0) (e .1 .1) in
+    (omega arith, next .sized, at .loop .inv .2, next)
 
 returns : tie.Need-returns Inv-loop μ-loop
-returns c = let e : c .before .loop .i ≡ 8 = omega arith in rw e at (c .before .loop .inv .2)
+returns c = let e : c .before .loop .i ≡ 8 = omega arith in rw e at (c .before .loop .inv .3)
 
 pub gather-spec : {M : Type 1} → statement M
 gather-spec =
@@ -68,13 +68,13 @@ gather-spec =
     (λ c. search needs)
     (λ c. search needs)
     (λ c. search needs)
-    slice-write-q-2
+    slice-write-w-2
     (λ c. search needs)
     (λ c. search needs)
-    slice-write-q-3
+    slice-write-w-3
     (λ c. search needs)
     (λ c. search needs)
-    slice-write-q-4
+    slice-write-w-4
     (λ c. search needs)
     (λ c. search needs)
     loop-again

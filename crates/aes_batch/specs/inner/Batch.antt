@@ -55,11 +55,11 @@ pub record Encrypted (key q t : List ℕ) : Type 0 where
 abbrev pub Transposing : ℕ → Planes → Planes → Type 0
 Transposing s a b = Transposed a b
 
--- Word k and the three behind it, of four rows of bytes, are the words of two blocks.
+-- Of word i of each of four rows of bytes: two columns of a block. And the words of the first n pairs of blocks.
 abbrev pub half : (q : List ℕ) (i k : ℕ) → ℕ
 half q i k =
-    column (k + 2) (getD q (4 * i) 0) (getD q (4 * i + 1) 0) (getD q (4 * i + 2) 0) (getD q (4 * i + 3) 0) * 2 ^ 32
-    + column k (getD q (4 * i) 0) (getD q (4 * i + 1) 0) (getD q (4 * i + 2) 0) (getD q (4 * i + 3) 0)
+    column (k + 2) (getD q i 0) (getD q (8 + i) 0) (getD q (16 + i) 0) (getD q (24 + i) 0) * 2 ^ 32
+    + column k (getD q i 0) (getD q (8 + i) 0) (getD q (16 + i) 0) (getD q (24 + i) 0)
 
 pub record Gathered (n : ℕ) (q t : List ℕ) : Type 0 where
   pub sized : length t ≡ 32
@@ -67,7 +67,6 @@ pub record Gathered (n : ℕ) (q t : List ℕ) : Type 0 where
   pub even-second : (i : ℕ) → i < n → getD t (4 * i + 1) 0 ≡ half q i 0
   pub odd-first : (i : ℕ) → i < n → getD t (4 * i + 2) 0 ≡ half q i 5
   pub odd-second : (i : ℕ) → i < n → getD t (4 * i + 3) 0 ≡ half q i 1
-  pub left : (k : ℕ) → 4 * n ≤ k → getD t k 0 ≡ getD q k 0
 
 -- The bytes of the first n words.
 unfoldable pub wordBytes : ℕ → List ℕ → List ℕ

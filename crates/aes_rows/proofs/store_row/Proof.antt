@@ -37,6 +37,7 @@ store-row-spec =
     (λ c. search needs)
     (λ c. search needs)
     (λ c. search needs)
+    (λ c. search needs)
     slice-write-q-2
     (λ c. search needs)
     (λ c. search needs)
