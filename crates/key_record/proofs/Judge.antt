@@ -1,18 +1,19 @@
 -- The steps of the functions that judge a record, over plain variables. Assumes nothing.
-use mathlib.Core.Path.{_≡_, sym, _∙_, ap}
+use mathlib.Core.Path.{_≡_, refl, sym, _∙_, ap}
 use mathlib.Core.Bool.{Bool, true, false, not}
 use mathlib.Core.List.{List}
-use Prim.Native.Nat.{ℕ, _+_, _-_, _<_, _≤_}
+use Prim.Native.Nat.{ℕ, _-_, _<_, _≤_}
 use lib.Dec.{leb, eqb}
 use lib.ListN.{length, getD, take, drop}
 use borrow.Author.Tests.{le-leb, lt-leb, eq-eqb, ne-eqb, not-true, not-false}
-use Rattle.octets.specs.Octets.{number}
+use Rattle.octets.specs.Octets.{number, pick, both}
 use Rattle.octets.proofs.Laws.{part-rest}
+use Rattle.answers.proofs.Basics.{both-true}
 use Rattle.window.specs.Window.{fits as inOrder}
 use Rattle.window.specs.declared.Window.{Window}
-use Rattle.key_record.specs.inner.Judging.{holdingMark, counterFits, windowFits, zerosFrom, fieldsFit}
-use Rattle.key_record.specs.Suites.{isSuite, keySize}
-use Rattle.key_record.specs.Layout.{markAt, suiteAt, spentAt, versionAt, counterAt, saltAt, keyAt, highestAt, maskAt, sendingMark, receivingMark, retiredMark, layoutVersion, windowIn}
+use Rattle.key_record.specs.inner.Judging.{holdingMark, counterFits, windowFits, fieldsFit}
+use Rattle.key_record.specs.Suites.{isSuite}
+use Rattle.key_record.specs.Layout.{markAt, suiteAt, spentAt, versionAt, counterAt, highestAt, maskAt, sendingMark, receivingMark, retiredMark, layoutVersion, windowIn}
 
 -- ---- marks
 
@@ -23,14 +24,6 @@ mark-low m h = rw (lt-leb sendingMark m h)
 pub mark-high : (m : ℕ) → sendingMark ≤ m → leb m retiredMark ≡ holdingMark m
 unfolding holdingMark
 mark-high m h = rw (le-leb sendingMark m h)
-
-pub from-retired : (m suite : ℕ) → m ≡ retiredMark → saltAt ≡ zerosFrom m suite
-unfolding zerosFrom
-from-retired m suite e = rw e
-
-pub from-other : (m suite k : ℕ) → (m ≡ retiredMark → ⊥) → k ≡ keySize suite → keyAt + k ≡ zerosFrom m suite
-unfolding zerosFrom
-from-other m suite k d e = rw (ne-eqb m retiredMark d, e)
 
 -- ---- fields
 
@@ -51,9 +44,14 @@ module _ (l : List ℕ) (s : isSuite (getD l suiteAt 0) ≡ true) where
     unfolding fieldsFit
     fields-counter t = sym (rw (s, eq-eqb (getD l versionAt 0) layoutVersion e, counted, not-true b t))
 
-    pub fields-window : not b ≡ false → (r : Bool) (w : Window) → w ≡ windowIn l → r ≡ windowFits (getD l markAt 0) w → r ≡ fieldsFit l
+    pub fields-window : not b ≡ false → (r : Bool) → r ≡ windowFits (getD l markAt 0) (windowIn l) → r ≡ fieldsFit l
     unfolding fieldsFit
-    fields-window t r w z f = f ∙ ap (windowFits (getD l markAt 0)) z ∙ sym (rw (s, eq-eqb (getD l versionAt 0) layoutVersion e, counted, not-false b t))
+    fields-window t r f = f ∙ sym (rw (s, eq-eqb (getD l versionAt 0) layoutVersion e, counted, not-false b t))
+
+-- the suite of fields that fit
+pub suite-fits : (l : List ℕ) → fieldsFit l ≡ true → isSuite (getD l suiteAt 0) ≡ true
+unfolding fieldsFit
+suite-fits l e = both-true (isSuite (getD l suiteAt 0)) _ e .0
 
 -- ---- the window
 
@@ -64,16 +62,32 @@ window-told l a b p q =
     let y : b ≡ number 8 (drop maskAt l) = q ∙ ap (number 8) (part-rest maskAt l) in
     (λ i. record { highest = x i; mask = y i })
 
-module _ (mark : ℕ) (w : Window) where
-  pub receiving-window : (r : Bool) → mark ≡ receivingMark → r ≡ inOrder w → r ≡ windowFits mark w
+-- a window with no bit set fits any mark, where its highest counter is 0
+none-set : (mark a : ℕ) → windowFits mark (record { highest = a; mask = 0 }) ≡ eqb a 0
+unfolding windowFits inOrder
+none-set mark a = by (eqb mark receivingMark) (eqb a 0)
+  where
+    by : (m t : Bool) → pick m t (both t true) ≡ t
+    by true t = refl
+    by false true = refl
+    by false false = refl
+
+module _ (l : List ℕ) (mask : ℕ) (q : mask ≡ number 8 (take (length l - maskAt) (drop maskAt l))) where
+  mask-is : windowIn l .mask ≡ mask
+  unfolding windowIn
+  mask-is = sym (q ∙ ap (number 8) (part-rest maskAt l))
+
+  pub mask-none : mask ≡ 0 → (mark a : ℕ) → a ≡ number 8 (take (length l - highestAt) (drop highestAt l)) → eqb a 0 ≡ windowFits mark (windowIn l)
+  mask-none e mark a p = sym (ap (λ (n : ℕ). windowFits mark (record { highest = a; mask = n })) e ∙ none-set mark a) ∙ ap (windowFits mark) (window-told l a mask p q)
+
+  pub mask-other : (mask ≡ 0 → ⊥) → (mark : ℕ) → (mark ≡ receivingMark → ⊥) → false ≡ windowFits mark (windowIn l)
   unfolding windowFits
-  receiving-window r m e = rw m e
+  mask-other d mark other = sym (rw (ne-eqb mark receivingMark other, mask-is, ne-eqb mask 0 d) (none (eqb (windowIn l .highest) 0)))
+    where
+      none : (b : Bool) → both b false ≡ false
+      none true = refl
+      none false = refl
 
-  module _ (other : mark ≡ receivingMark → ⊥) where
-    pub other-highest : (w .highest ≡ 0 → ⊥) → false ≡ windowFits mark w
-    unfolding windowFits
-    other-highest d = rw (ne-eqb mark receivingMark other, ne-eqb (w .highest) 0 d)
-
-    pub other-mask : w .highest ≡ 0 → eqb (w .mask) 0 ≡ windowFits mark w
-    unfolding windowFits
-    other-mask e = rw (ne-eqb mark receivingMark other, e)
+pub mask-told : (l : List ℕ) (mark : ℕ) (w : Window) (r : Bool) → mark ≡ receivingMark → w ≡ windowIn l → r ≡ inOrder w → r ≡ windowFits mark (windowIn l)
+unfolding windowFits
+mask-told l mark w r m z e = rw m (e ∙ ap inOrder z)
