@@ -2,16 +2,19 @@
 use mathlib.Core.Path.{_≡_, refl, sym, _∙_, ap}
 use mathlib.Core.Bool.{Bool, true, false, not}
 use mathlib.Core.List.{List}
-use Prim.Native.Nat.{ℕ, _-_, _<_, _≤_}
+use Prim.Native.Nat.{ℕ, _+_, _*_, _-_, _%_, _<_, _≤_}
+use native.Mathlib.Omega.{arith}
 use lib.Dec.{leb, eqb}
 use lib.ListN.{length, getD, take, drop}
+use lib.Seq.{getD-drop}
 use borrow.Author.Tests.{le-leb, lt-leb, eq-eqb, ne-eqb, not-true, not-false}
 use Rattle.octets.specs.Octets.{number, pick, both}
-use Rattle.octets.proofs.Laws.{part-rest}
-use Rattle.answers.proofs.Basics.{both-true}
-use Rattle.window.specs.Window.{fits as inOrder}
+use Rattle.octets.proofs.Laws.{part-rest, number-suc}
+use Rattle.answers.proofs.Basics.{Two, yes′, no′, two, both-true}
+use Rattle.window.specs.Window.{bit, fits as inOrder}
+use Rattle.window.proofs.Laws.{first-bit}
 use Rattle.window.specs.declared.Window.{Window}
-use Rattle.key_record.specs.inner.Judging.{holdingMark, counterFits, windowFits, fieldsFit}
+use Rattle.key_record.specs.inner.Judging.{holdingMark, counterFits, hasOpened, windowFits, fieldsFit}
 use Rattle.key_record.specs.Suites.{isSuite}
 use Rattle.key_record.specs.Layout.{markAt, suiteAt, spentAt, versionAt, counterAt, highestAt, maskAt, sendingMark, receivingMark, retiredMark, layoutVersion, windowIn}
 
@@ -62,32 +65,54 @@ window-told l a b p q =
     let y : b ≡ number 8 (drop maskAt l) = q ∙ ap (number 8) (part-rest maskAt l) in
     (λ i. record { highest = x i; mask = y i })
 
--- a window with no bit set fits any mark, where its highest counter is 0
-none-set : (mark a : ℕ) → windowFits mark (record { highest = a; mask = 0 }) ≡ eqb a 0
-unfolding windowFits inOrder
-none-set mark a = by (eqb mark receivingMark) (eqb a 0)
-  where
-    by : (m t : Bool) → pick m t (both t true) ≡ t
-    by true t = refl
-    by false true = refl
-    by false false = refl
+pub opened-other : (l : List ℕ) → (getD l markAt 0 ≡ receivingMark → ⊥) → false ≡ hasOpened l
+unfolding hasOpened
+opened-other l d = rw (ne-eqb (getD l markAt 0) receivingMark d)
 
-module _ (l : List ℕ) (mask : ℕ) (q : mask ≡ number 8 (take (length l - maskAt) (drop maskAt l))) where
-  mask-is : windowIn l .mask ≡ mask
+pub opened-last : (l : List ℕ) → getD l markAt 0 ≡ receivingMark → eqb (getD l (maskAt + 7) 0 % 2) 1 ≡ hasOpened l
+unfolding hasOpened
+opened-last l e = rw e
+
+last-digit : (n a : ℕ) → (n * 256 + a) % 2 ≡ a % 2
+last-digit n a = omega arith
+
+module _ (l : List ℕ) where
+  -- a mask and its last byte
+  mask-last : windowIn l .mask % 2 ≡ getD l (maskAt + 7) 0 % 2
   unfolding windowIn
-  mask-is = sym (q ∙ ap (number 8) (part-rest maskAt l))
+  mask-last = ap (λ (n : ℕ). n % 2) (number-suc 7 (drop maskAt l)) ∙ last-digit (number 7 (drop maskAt l)) (getD (drop maskAt l) 7 0) ∙ ap (λ (n : ℕ). n % 2) (getD-drop maskAt l 7 0)
 
-  pub mask-none : mask ≡ 0 → (mark a : ℕ) → a ≡ number 8 (take (length l - highestAt) (drop highestAt l)) → eqb a 0 ≡ windowFits mark (windowIn l)
-  mask-none e mark a p = sym (ap (λ (n : ℕ). windowFits mark (record { highest = a; mask = n })) e ∙ none-set mark a) ∙ ap (windowFits mark) (window-told l a mask p q)
+  pub window-opened : (w : Window) (r : Bool) → hasOpened l ≡ true → w ≡ windowIn l → r ≡ inOrder w → r ≡ windowFits (getD l markAt 0) (windowIn l)
+  unfolding hasOpened windowFits
+  window-opened w r t z e = rw (both-true (eqb (getD l markAt 0) receivingMark) (eqb (getD l (maskAt + 7) 0 % 2) 1) t .0) (e ∙ ap inOrder z)
 
-  pub mask-other : (mask ≡ 0 → ⊥) → (mark : ℕ) → (mark ≡ receivingMark → ⊥) → false ≡ windowFits mark (windowIn l)
-  unfolding windowFits
-  mask-other d mark other = sym (rw (ne-eqb mark receivingMark other, mask-is, ne-eqb mask 0 d) (none (eqb (windowIn l .highest) 0)))
-    where
-      none : (b : Bool) → both b false ≡ false
-      none true = refl
-      none false = refl
+  -- where nothing was opened, both fields are zero
+  module _ (f : hasOpened l ≡ false) (a : ℕ) (p : a ≡ number 8 (take (length l - highestAt) (drop highestAt l))) where
+    both-zero : windowFits (getD l markAt 0) (windowIn l) ≡ both (eqb (windowIn l .highest) 0) (eqb (windowIn l .mask) 0)
+    unfolding hasOpened windowFits inOrder
+    both-zero = by (two (eqb (getD l markAt 0) receivingMark))
+      where
+        picked : (t u : Bool) → pick t u false ≡ both u t
+        picked true true = refl
+        picked true false = refl
+        picked false true = refl
+        picked false false = refl
 
-pub mask-told : (l : List ℕ) (mark : ℕ) (w : Window) (r : Bool) → mark ≡ receivingMark → w ≡ windowIn l → r ≡ inOrder w → r ≡ windowFits mark (windowIn l)
-unfolding windowFits
-mask-told l mark w r m z e = rw m (e ∙ ap inOrder z)
+        by : Two (eqb (getD l markAt 0) receivingMark) → windowFits (getD l markAt 0) (windowIn l) ≡ both (eqb (windowIn l .highest) 0) (eqb (windowIn l .mask) 0)
+        by (yes′ t) =
+            let even : eqb (bit (windowIn l .mask) 0) 1 ≡ false = ap (λ (n : ℕ). eqb n 1) (first-bit (windowIn l .mask) ∙ mask-last) ∙ (rw t at f) in
+            rw (t, even) (picked (eqb (windowIn l .mask) 0) (eqb (windowIn l .highest) 0))
+        by (no′ t) = rw t
+
+    highest-is : windowIn l .highest ≡ a
+    unfolding windowIn
+    highest-is = sym (p ∙ ap (number 8) (part-rest highestAt l))
+
+    pub window-highest : (a ≡ 0 → ⊥) → false ≡ windowFits (getD l markAt 0) (windowIn l)
+    window-highest d = sym (both-zero ∙ ap (λ (t : Bool). both t (eqb (windowIn l .mask) 0)) (ap (λ (n : ℕ). eqb n 0) highest-is ∙ ne-eqb a 0 d))
+
+    pub window-mask : a ≡ 0 → (b : ℕ) → b ≡ number 8 (take (length l - maskAt) (drop maskAt l)) → eqb b 0 ≡ windowFits (getD l markAt 0) (windowIn l)
+    unfolding windowIn
+    window-mask e b q =
+        ap (λ (n : ℕ). eqb n 0) (q ∙ ap (number 8) (part-rest maskAt l))
+        ∙ sym (both-zero ∙ ap (λ (t : Bool). both t (eqb (windowIn l .mask) 0)) (ap (λ (n : ℕ). eqb n 0) highest-is ∙ eq-eqb a 0 e))

@@ -6,7 +6,7 @@ ghost use lib.ListN.{length, getD, replicate};
 ghost use Rattle.octets.specs.Octets.{same};
 ghost use Rattle.key_record.specs.Layout.{recordSize, markAt, saltAt, keyAt, highestAt, windowIn, obeys};
 ghost use Rattle.key_record.specs.Suites.{isSuite, keySize};
-ghost use Rattle.key_record.specs.inner.Judging.{block, zeroIn, holdingMark, counterFits, windowFits, fieldsFit};
+ghost use Rattle.key_record.specs.inner.Judging.{block, zeroIn, holdingMark, counterFits, hasOpened, windowFits, fieldsFit};
 use crate::COUNTER;
 use crate::EMPTY;
 use crate::HIGHEST;
@@ -143,18 +143,29 @@ pub fn window_in(row: &[u8]) -> Window
     Window { highest, mask }
 }
 
-// Whether a record's window fits its mark.
+// Whether a record is for receiving and its window says that something was opened: the lowest bit of its mask is set.
+fn has_opened(row: &[u8]) -> bool
+    requires { ⌜ length (now row) ≡ recordSize ⌝ }
+    ensures { λ r. ⌜ r ≡ hasOpened (now (row .entry)) ⌝ }
+{
+    if row[MARK] != RECEIVING {
+        return false;
+    }
+    row[MASK + 7] % 2 == 1
+}
+
+// Whether a record's window fits its mark. Where nothing was opened its two fields are zero.
 fn window_fits(row: &[u8]) -> bool
     requires { ⌜ length (now row) ≡ recordSize ⌝ }
     ensures { λ r. ⌜ r ≡ windowFits (getD (now (row .entry)) markAt 0) (windowIn (now (row .entry))) ⌝ }
 {
-    if octets::read_be64(&row[MASK..]) == 0 {
-        return octets::read_be64(&row[HIGHEST..]) == 0;
+    if has_opened(row) {
+        return window::is_sound(window_in(row));
     }
-    if row[MARK] != RECEIVING {
+    if octets::read_be64(&row[HIGHEST..]) != 0 {
         return false;
     }
-    window::is_sound(window_in(row))
+    octets::read_be64(&row[MASK..]) == 0
 }
 
 // Whether the fields of a non-empty record's bytes are in range.

@@ -28,13 +28,6 @@ to-zero-block c = c .before .before .before .before
 
 -- ----
 
--- a salt that is zero: the key says the rest
-key-left : (c : tie.Else2) (b : Bool) → b ≡ zeroIn keyAt keyRoom (to-start-from-else2 c .args .row .now) → b ≡ zeroIn saltAt (highestAt - saltAt) (to-start-from-else2 c .args .row .now)
-key-left c b =
-    let at-start = to-start-from-else2 c in
-    let at-if1 = c .before .before .before in
-    wiped-salt (at-start .args .row .now) (at-start .pre) _ (at-if1 .before .read-be64 .ensures) (at-if1 .if1 .left) _ (c .before .read-be32 .ensures) (c .if2 .left) b
-
 returns : tie.Need-returns
 returns c =
     let at-start = to-start c in
@@ -44,6 +37,13 @@ returns-2 : tie.Need-returns-2
 returns-2 c =
     let at-read-be64 = to-read-be64 c in
     wiped-part (at-read-be64 .before .before .before .args .row .now) (at-read-be64 .before .before .before .pre) _ (at-read-be64 .read-be64 .ensures) (c .before .before .before .if1 .left) _ (c .before .read-be32 .ensures) (c .if2 .taken)
+
+-- a salt that is zero: the key says the rest
+key-left : (c : tie.Else2) (b : Bool) → b ≡ zeroIn keyAt keyRoom (to-start-from-else2 c .args .row .now) → b ≡ zeroIn saltAt (highestAt - saltAt) (to-start-from-else2 c .args .row .now)
+key-left c b =
+    let at-start = to-start-from-else2 c in
+    let at-if1 = c .before .before .before in
+    wiped-salt (at-start .args .row .now) (at-start .pre) _ (at-if1 .before .read-be64 .ensures) (at-if1 .if1 .left) _ (c .before .read-be32 .ensures) (c .if2 .left) b
 
 returns-3 : tie.Need-returns-3
 returns-3 c =
