@@ -20,6 +20,7 @@ use Rattle.answers.proofs.Basics.{Two, yes′, no′, two, both-true, both-and}
 use Rattle.key_record.proofs.Codec.{window-length, row-read, read-sending, read-receiving, read-retired, read-empty}
 use Rattle.key_record.proofs.Spent.{spent-none, TwoFields, receiving-fields, fields-receiving, fields-other, other-fields}
 use Rattle.key_record.proofs.Suites.{key-size}
+use Rattle.key_record.proofs.Zeros.{both-right}
 
 pub bool-iff : (a b : Bool) → (a ≡ true → b ≡ true) → (b ≡ true → a ≡ true) → a ≡ b
 bool-iff true b p q = sym (p refl)
@@ -508,10 +509,6 @@ module _ (l : List ℕ) (o : Octets l) (n : length l ≡ recordSize) where
   judged-empty b m e =
       e ∙ ap (λ (k : ℕ). same (replicate k 0) l) n
       ∙ sym (ap (λ (r : KeyRecord). both (same (encode r) l) (fits r)) (read-empty l (λ a. omega arith) (λ a. omega arith) (λ a. omega arith)) ∙ both-right (same (replicate recordSize 0) l))
-    where
-      both-right : (x : Bool) → both x true ≡ x
-      both-right true = refl
-      both-right false = refl
 
   -- a record with no byte 0 that is known
   pub judged-unknown : (getD l markAt 0 ≡ 0 → ⊥) → holdingMark (getD l markAt 0) ≡ false → false ≡ obeys l

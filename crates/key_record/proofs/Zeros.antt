@@ -1,6 +1,6 @@
 -- Bytes of a record that are zero: the steps of the tests for them, over plain variables. Assumes nothing.
 use mathlib.Core.Path.{_≡_, refl, sym, _∙_, ap, ap₂}
-use mathlib.Core.Bool.{Bool, true, false, not}
+use mathlib.Core.Bool.{Bool, true, false}
 use mathlib.Core.List.{List, [], _∷_, _++_}
 use Prim.Native.Nat.{ℕ, zero, suc, _+_, _-_, _*_, _<_, _≤_}
 use native.Mathlib.Numerals.{add-one}
@@ -21,7 +21,7 @@ use Rattle.answers.proofs.Basics.{Two, yes′, no′, two}
 use Rattle.key_record.specs.inner.Judging.{block, zeroIn}
 use Rattle.key_record.specs.Layout.{recordSize, saltAt, keyAt, keyRoom, highestAt}
 use Rattle.key_record.specs.Suites.{isSuite, keySize}
-use Rattle.key_record.proofs.Suites.{Named, named, key-named}
+use Rattle.key_record.proofs.Suites.{named, key-named}
 
 -- ---- one byte after the other
 
@@ -86,7 +86,7 @@ zero-number from n v l h e =
 
 -- ---- some of them, and those behind
 
-both-right : (b : Bool) → both b true ≡ b
+pub both-right : (b : Bool) → both b true ≡ b
 both-right true = refl
 both-right false = refl
 
