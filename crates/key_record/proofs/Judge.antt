@@ -1,18 +1,22 @@
 -- The steps of the functions that judge a record, over plain variables. Assumes nothing.
-use mathlib.Core.Path.{_≡_, sym, _∙_, ap}
+use mathlib.Core.Path.{_≡_, refl, sym, _∙_, ap}
 use mathlib.Core.Bool.{Bool, true, false, not}
 use mathlib.Core.List.{List}
-use Prim.Native.Nat.{ℕ, _+_, _-_, _<_, _≤_}
+use Prim.Native.Nat.{ℕ, _+_, _*_, _-_, _%_, _<_, _≤_}
+use native.Mathlib.Omega.{arith}
 use lib.Dec.{leb, eqb}
 use lib.ListN.{length, getD, take, drop}
+use lib.Seq.{getD-drop}
 use borrow.Author.Tests.{le-leb, lt-leb, eq-eqb, ne-eqb, not-true, not-false}
-use Rattle.octets.specs.Octets.{number}
-use Rattle.octets.proofs.Laws.{part-rest}
-use Rattle.window.specs.Window.{fits as inOrder}
+use Rattle.octets.specs.Octets.{number, pick, both}
+use Rattle.octets.proofs.Laws.{part-rest, number-suc}
+use Rattle.answers.proofs.Basics.{Two, yes′, no′, two, both-true}
+use Rattle.window.specs.Window.{bit, fits as inOrder}
+use Rattle.window.proofs.Laws.{first-bit}
 use Rattle.window.specs.declared.Window.{Window}
-use Rattle.key_record.specs.inner.Judging.{holdingMark, counterFits, windowFits, zerosFrom, fieldsFit}
-use Rattle.key_record.specs.Suites.{isSuite, keySize}
-use Rattle.key_record.specs.Layout.{markAt, suiteAt, spentAt, versionAt, counterAt, saltAt, keyAt, highestAt, maskAt, sendingMark, receivingMark, retiredMark, layoutVersion, windowIn}
+use Rattle.key_record.specs.inner.Judging.{holdingMark, counterFits, hasOpened, windowFits, fieldsFit}
+use Rattle.key_record.specs.Suites.{isSuite}
+use Rattle.key_record.specs.Layout.{markAt, suiteAt, spentAt, versionAt, counterAt, highestAt, maskAt, sendingMark, receivingMark, retiredMark, layoutVersion, windowIn}
 
 -- ---- marks
 
@@ -23,14 +27,6 @@ mark-low m h = rw (lt-leb sendingMark m h)
 pub mark-high : (m : ℕ) → sendingMark ≤ m → leb m retiredMark ≡ holdingMark m
 unfolding holdingMark
 mark-high m h = rw (le-leb sendingMark m h)
-
-pub from-retired : (m suite : ℕ) → m ≡ retiredMark → saltAt ≡ zerosFrom m suite
-unfolding zerosFrom
-from-retired m suite e = rw e
-
-pub from-other : (m suite k : ℕ) → (m ≡ retiredMark → ⊥) → k ≡ keySize suite → keyAt + k ≡ zerosFrom m suite
-unfolding zerosFrom
-from-other m suite k d e = rw (ne-eqb m retiredMark d, e)
 
 -- ---- fields
 
@@ -51,9 +47,14 @@ module _ (l : List ℕ) (s : isSuite (getD l suiteAt 0) ≡ true) where
     unfolding fieldsFit
     fields-counter t = sym (rw (s, eq-eqb (getD l versionAt 0) layoutVersion e, counted, not-true b t))
 
-    pub fields-window : not b ≡ false → (r : Bool) (w : Window) → w ≡ windowIn l → r ≡ windowFits (getD l markAt 0) w → r ≡ fieldsFit l
+    pub fields-window : not b ≡ false → (r : Bool) → r ≡ windowFits (getD l markAt 0) (windowIn l) → r ≡ fieldsFit l
     unfolding fieldsFit
-    fields-window t r w z f = f ∙ ap (windowFits (getD l markAt 0)) z ∙ sym (rw (s, eq-eqb (getD l versionAt 0) layoutVersion e, counted, not-false b t))
+    fields-window t r f = f ∙ sym (rw (s, eq-eqb (getD l versionAt 0) layoutVersion e, counted, not-false b t))
+
+-- the suite of fields that fit
+pub suite-fits : (l : List ℕ) → fieldsFit l ≡ true → isSuite (getD l suiteAt 0) ≡ true
+unfolding fieldsFit
+suite-fits l e = both-true (isSuite (getD l suiteAt 0)) _ e .0
 
 -- ---- the window
 
@@ -64,16 +65,54 @@ window-told l a b p q =
     let y : b ≡ number 8 (drop maskAt l) = q ∙ ap (number 8) (part-rest maskAt l) in
     (λ i. record { highest = x i; mask = y i })
 
-module _ (mark : ℕ) (w : Window) where
-  pub receiving-window : (r : Bool) → mark ≡ receivingMark → r ≡ inOrder w → r ≡ windowFits mark w
-  unfolding windowFits
-  receiving-window r m e = rw m e
+pub opened-other : (l : List ℕ) → (getD l markAt 0 ≡ receivingMark → ⊥) → false ≡ hasOpened l
+unfolding hasOpened
+opened-other l d = rw (ne-eqb (getD l markAt 0) receivingMark d)
 
-  module _ (other : mark ≡ receivingMark → ⊥) where
-    pub other-highest : (w .highest ≡ 0 → ⊥) → false ≡ windowFits mark w
-    unfolding windowFits
-    other-highest d = rw (ne-eqb mark receivingMark other, ne-eqb (w .highest) 0 d)
+pub opened-last : (l : List ℕ) → getD l markAt 0 ≡ receivingMark → eqb (getD l (maskAt + 7) 0 % 2) 1 ≡ hasOpened l
+unfolding hasOpened
+opened-last l e = rw e
 
-    pub other-mask : w .highest ≡ 0 → eqb (w .mask) 0 ≡ windowFits mark w
-    unfolding windowFits
-    other-mask e = rw (ne-eqb mark receivingMark other, e)
+last-digit : (n a : ℕ) → (n * 256 + a) % 2 ≡ a % 2
+last-digit n a = omega arith
+
+module _ (l : List ℕ) where
+  -- a mask and its last byte
+  mask-last : windowIn l .mask % 2 ≡ getD l (maskAt + 7) 0 % 2
+  unfolding windowIn
+  mask-last = ap (λ (n : ℕ). n % 2) (number-suc 7 (drop maskAt l)) ∙ last-digit (number 7 (drop maskAt l)) (getD (drop maskAt l) 7 0) ∙ ap (λ (n : ℕ). n % 2) (getD-drop maskAt l 7 0)
+
+  pub window-opened : (w : Window) (r : Bool) → hasOpened l ≡ true → w ≡ windowIn l → r ≡ inOrder w → r ≡ windowFits (getD l markAt 0) (windowIn l)
+  unfolding hasOpened windowFits
+  window-opened w r t z e = rw (both-true (eqb (getD l markAt 0) receivingMark) (eqb (getD l (maskAt + 7) 0 % 2) 1) t .0) (e ∙ ap inOrder z)
+
+  -- where nothing was opened, both fields are zero
+  module _ (f : hasOpened l ≡ false) (a : ℕ) (p : a ≡ number 8 (take (length l - highestAt) (drop highestAt l))) where
+    both-zero : windowFits (getD l markAt 0) (windowIn l) ≡ both (eqb (windowIn l .highest) 0) (eqb (windowIn l .mask) 0)
+    unfolding hasOpened windowFits inOrder
+    both-zero = by (two (eqb (getD l markAt 0) receivingMark))
+      where
+        picked : (t u : Bool) → pick t u false ≡ both u t
+        picked true true = refl
+        picked true false = refl
+        picked false true = refl
+        picked false false = refl
+
+        by : Two (eqb (getD l markAt 0) receivingMark) → windowFits (getD l markAt 0) (windowIn l) ≡ both (eqb (windowIn l .highest) 0) (eqb (windowIn l .mask) 0)
+        by (yes′ t) =
+            let even : eqb (bit (windowIn l .mask) 0) 1 ≡ false = ap (λ (n : ℕ). eqb n 1) (first-bit (windowIn l .mask) ∙ mask-last) ∙ (rw t at f) in
+            rw (t, even) (picked (eqb (windowIn l .mask) 0) (eqb (windowIn l .highest) 0))
+        by (no′ t) = rw t
+
+    highest-is : windowIn l .highest ≡ a
+    unfolding windowIn
+    highest-is = sym (p ∙ ap (number 8) (part-rest highestAt l))
+
+    pub window-highest : (a ≡ 0 → ⊥) → false ≡ windowFits (getD l markAt 0) (windowIn l)
+    window-highest d = sym (both-zero ∙ ap (λ (t : Bool). both t (eqb (windowIn l .mask) 0)) (ap (λ (n : ℕ). eqb n 0) highest-is ∙ ne-eqb a 0 d))
+
+    pub window-mask : a ≡ 0 → (b : ℕ) → b ≡ number 8 (take (length l - maskAt) (drop maskAt l)) → eqb b 0 ≡ windowFits (getD l markAt 0) (windowIn l)
+    unfolding windowIn
+    window-mask e b q =
+        ap (λ (n : ℕ). eqb n 0) (q ∙ ap (number 8) (part-rest maskAt l))
+        ∙ sym (both-zero ∙ ap (λ (t : Bool). both t (eqb (windowIn l .mask) 0)) (ap (λ (n : ℕ). eqb n 0) highest-is ∙ eq-eqb a 0 e))

@@ -5,3 +5,4 @@ pub mod KindLaws
 mod Rows
 mod Spent
 pub mod Suites
+mod Zeros

@@ -3,19 +3,16 @@ use mathlib.Core.Path.{_≡_, refl, sym, _∙_, ap, ap₂}
 use mathlib.Core.Bool.{Bool, true, false, false≢true}
 use mathlib.Core.List.{List, [], _∷_, _++_, append-assoc, append-nil}
 use Prim.Native.Nat.{ℕ, _+_, _-_, _^_, _<_, _≤_}
-use native.Mathlib.Numerals.{add-one}
 use native.Mathlib.Omega.{arith}
-use lib.Bits.{bitOr, or-zero-l}
 use lib.Dec.{leb, eqb}
-use lib.ListN.{length, length-append, getD, take, drop, replicate, length-take, length-drop, length-replicate, take-append-drop, replicate-append-replicate, getD-replicate, set, drop-of-length-le}
-use lib.Seq.{take-at, drop-at, drop-drop, drop-append-le, take-add, take-suc, take-take, take-all, getD-take, length-take-le}
+use lib.ListN.{length, length-append, getD, take, drop, replicate, length-take, length-drop, length-replicate, take-append-drop, replicate-append-replicate, set, drop-of-length-le}
+use lib.Seq.{take-at, drop-at, drop-drop, drop-append-le, take-add, take-take, take-all, length-take-le}
 use borrow.Author.Tests.{leb-true, le-leb, eq-eqb, ne-eqb, eqb-true, eqb-false}
-use Rattle.octets.specs.Octets.{Octets, number, bytes, pasted, same, both}
-use Rattle.octets.proofs.Bits.{or-zero}
-use Rattle.octets.proofs.Laws.{bytes-length, bytes-number, number-lt, octets-drop, same-refl, same-eq, same-count}
+use Rattle.octets.specs.Octets.{Octets, number, bytes, pasted, same, pick, both}
+use Rattle.octets.proofs.Laws.{bytes-length, bytes-number, number-lt, octets-drop, same-refl, same-eq}
 use Rattle.window.specs.Window.{fresh, fits as inOrder}
 use Rattle.window.specs.declared.Window.{Window}
-use Rattle.key_record.specs.inner.Judging.{holdingMark, counterFits, windowFits, zerosFrom, fieldsFit}
+use Rattle.key_record.specs.inner.Judging.{zeroIn, holdingMark, counterFits, windowFits, fieldsFit}
 use Rattle.key_record.specs.Layout.{recordSize, keyRoom, sendingMark, receivingMark, retiredMark, layoutVersion, spentByte, windowBytes, ending, row, encode, counterIn, windowIn, decode, fits, obeys, markAt, suiteAt, spentAt, versionAt, kidAt, counterAt, saltAt, keyAt, highestAt, maskAt}
 use Rattle.key_record.specs.Record.{ceiling, KeyRecord, empty}
 use Rattle.key_record.specs.Suites.{isSuite, keySize, saltSize}
@@ -23,6 +20,7 @@ use Rattle.answers.proofs.Basics.{Two, yes′, no′, two, both-true, both-and}
 use Rattle.key_record.proofs.Codec.{window-length, row-read, read-sending, read-receiving, read-retired, read-empty}
 use Rattle.key_record.proofs.Spent.{spent-none, TwoFields, receiving-fields, fields-receiving, fields-other, other-fields}
 use Rattle.key_record.proofs.Suites.{key-size}
+use Rattle.key_record.proofs.Zeros.{both-right}
 
 pub bool-iff : (a b : Bool) → (a ≡ true → b ≡ true) → (b ≡ true → a ≡ true) → a ≡ b
 bool-iff true b p q = sym (p refl)
@@ -193,6 +191,10 @@ zeros-are x j e = ap (λ (k : ℕ). replicate {A = ℕ} k 0) (ap length e ∙ le
 -- a record's bytes from a place up to the window
 abbrev upTo : ℕ → List ℕ → List ℕ
 upTo from l = take (highestAt - from) (drop from l)
+
+-- where the zeros begin that end at the window, by mark and suite
+unfoldable zerosFrom : ℕ → ℕ → ℕ
+zerosFrom mark suite = pick (eqb mark retiredMark) saltAt (keyAt + keySize suite)
 
 abbrev zerosBegin : List ℕ → ℕ
 zerosBegin l = zerosFrom (getD l markAt 0) (getD l suiteAt 0)
@@ -507,10 +509,6 @@ module _ (l : List ℕ) (o : Octets l) (n : length l ≡ recordSize) where
   judged-empty b m e =
       e ∙ ap (λ (k : ℕ). same (replicate k 0) l) n
       ∙ sym (ap (λ (r : KeyRecord). both (same (encode r) l) (fits r)) (read-empty l (λ a. omega arith) (λ a. omega arith) (λ a. omega arith)) ∙ both-right (same (replicate recordSize 0) l))
-    where
-      both-right : (x : Bool) → both x true ≡ x
-      both-right true = refl
-      both-right false = refl
 
   -- a record with no byte 0 that is known
   pub judged-unknown : (getD l markAt 0 ≡ 0 → ⊥) → holdingMark (getD l markAt 0) ≡ false → false ≡ obeys l
@@ -533,29 +531,20 @@ module _ (l : List ℕ) (o : Octets l) (n : length l ≡ recordSize) where
   pub judged-fields : holdingMark (getD l markAt 0) ≡ true → fieldsFit l ≡ false → false ≡ obeys l
   judged-fields h f = sym (held-marks h ∙ ap (λ (b : Bool). both b (zerosEnd l)) f)
 
-  pub judged-end : (b : Bool) (from : ℕ) → holdingMark (getD l markAt 0) ≡ true → fieldsFit l ≡ true → from ≡ zerosFrom (getD l markAt 0) (getD l suiteAt 0)
-      → b ≡ same (replicate (length (upTo from l)) 0) (upTo from l) → b ≡ obeys l
+  -- a record whose fields fit, by the zeros that end at the window
+  judged-end : (b : Bool) (from : ℕ) → holdingMark (getD l markAt 0) ≡ true → fieldsFit l ≡ true → from ≡ zerosBegin l → b ≡ zeroIn from (highestAt - from) l → b ≡ obeys l
+  unfolding zeroIn
   judged-end b from h f e q =
-      q ∙ ap (λ (k : ℕ). same (replicate (length (upTo k l)) 0) (upTo k l)) e
+      let k : highestAt - zerosBegin l ≡ length (upTo (zerosBegin l) l) = simp (length-take, length-drop) (omega arith) in
+      q ∙ ap (λ (k : ℕ). zeroIn k (highestAt - k) l) e
+      ∙ ap (λ (k : ℕ). same (replicate k 0) (upTo (zerosBegin l) l)) k
       ∙ sym (held-marks h ∙ ap (λ (b : Bool). both b (zerosEnd l)) f)
 
--- ---- zeros
+  pub judged-wiped : (b : Bool) → holdingMark (getD l markAt 0) ≡ true → fieldsFit l ≡ true → getD l markAt 0 ≡ retiredMark → b ≡ zeroIn saltAt (highestAt - saltAt) l → b ≡ obeys l
+  unfolding zerosFrom
+  judged-wiped b h f m q = judged-end b saltAt h f (rw m) q
 
-pub any-next : (d i : ℕ) (b : List ℕ) → i < length b → (d ≡ 0 → replicate i 0 ≡ take i b) → bitOr d (getD b i 0) ≡ 0 → replicate (i + 1) 0 ≡ take (i + 1) b
-any-next d i b h p e =
-    let z = or-zero d (getD b i 0) e in
-    rw (add-one, take-suc b i 0 h, ← p (z .0), z .1) (ap (λ (k : ℕ). replicate {A = ℕ} k 0) (sym (add-one i)) ∙ sym (replicate-append-replicate {A = ℕ} i 1 0))
-
-pub any-before : (d i : ℕ) (b : List ℕ) → i < length b → (replicate i 0 ≡ take i b → d ≡ 0) → replicate (i + 1) 0 ≡ take (i + 1) b → bitOr d (getD b i 0) ≡ 0
-any-before d i b h q e =
-    let f : replicate i 0 ≡ take i b =
-    sym (take-at (replicate i 0) (replicate 1 0) i (length-replicate {A = ℕ} i 0)) ∙ ap (take i) (replicate-append-replicate {A = ℕ} i 1 0 ∙ e) ∙ take-take i (i + 1) b (omega arith)
-    in
-    let g : getD b i 0 ≡ 0 = sym (getD-take (i + 1) b i 0 (omega arith)) ∙ ap (λ (t : List ℕ). getD t i 0) (sym e) ∙ getD-replicate {A = ℕ} (i + 1) i 0 0 (omega arith) in
-    rw (q f, g, or-zero-l)
-
-pub any-done : (d i : ℕ) (b : List ℕ) → i ≤ length b → length b ≤ i → (d ≡ 0 → replicate i 0 ≡ take i b) → (replicate i 0 ≡ take i b → d ≡ 0)
-    → eqb d 0 ≡ same (replicate (length b) 0) b
-any-done d i b h k p q =
-    let e : i ≡ length b = omega arith in
-    same-count d (replicate (length b) 0) b (λ z. ap (λ (j : ℕ). replicate {A = ℕ} j 0) (sym e) ∙ p z ∙ take-all i b k) (λ z. q (ap (λ (j : ℕ). replicate {A = ℕ} j 0) e ∙ z ∙ sym (take-all i b k)))
+  pub judged-key : (b : Bool) → holdingMark (getD l markAt 0) ≡ true → fieldsFit l ≡ true → (getD l markAt 0 ≡ retiredMark → ⊥)
+      → b ≡ zeroIn (keyAt + keySize (getD l suiteAt 0)) (highestAt - (keyAt + keySize (getD l suiteAt 0))) l → b ≡ obeys l
+  unfolding zerosFrom
+  judged-key b h f d q = judged-end b (keyAt + keySize (getD l suiteAt 0)) h f (rw (ne-eqb (getD l markAt 0) retiredMark d)) q

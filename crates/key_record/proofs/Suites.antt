@@ -1,5 +1,5 @@
 -- The suites by number. Assumes nothing.
-use mathlib.Core.Path.{_≡_, refl, sym, _∙_}
+use mathlib.Core.Path.{_≡_, refl}
 use mathlib.Core.Bool.{true, false, false≢true}
 use Prim.Native.Nat.{ℕ, _<_, _≤_}
 use native.Mathlib.Omega.{arith}
@@ -36,10 +36,6 @@ pub key-named : (n : ℕ) (s : Suite) → suiteOf n ≡ Known s → keySize n �
 unfolding keySize
 key-named n s e = rw e
 
-pub key-unnamed : (n : ℕ) → suiteOf n ≡ Unknown → keySize n ≡ 0
-unfolding keySize
-key-unnamed n e = rw e
-
 pub tag-named : (n : ℕ) (s : Suite) → suiteOf n ≡ Known s → tagSize n ≡ Nt s
 unfolding tagSize
 tag-named n s e = rw e
@@ -54,6 +50,3 @@ key-size n = by (suiteOf n)
     by : (f : Found) → withSuite 0 Nk f ≤ keyRoom
     by (Known s) = Nk-most s
     by Unknown = omega arith
-
-pub size-told : (n k : ℕ) (s : Suite) → suiteOf n ≡ Known s → k ≡ Nk s → (k ≡ keySize n) × (k ≤ keyRoom)
-size-told n k s e q = (q ∙ sym (key-named n s e), omega (arith, Nk-most s))

@@ -1,11 +1,12 @@
 // Judging one record's bytes: whether they obey their row.
 ghost use mathlib.Core.Path.{_≡_};
-ghost use Prim.Native.Nat.{_≤_};
-ghost use lib.ListN.{length, replicate};
+ghost use mathlib.Core.Bool.{true};
+ghost use Prim.Native.Nat.{_+_, _-_, _≤_};
+ghost use lib.ListN.{length, getD, replicate};
 ghost use Rattle.octets.specs.Octets.{same};
-ghost use Rattle.key_record.specs.Layout.{recordSize, highestAt, keyRoom, windowIn, obeys};
+ghost use Rattle.key_record.specs.Layout.{recordSize, markAt, saltAt, keyAt, highestAt, windowIn, obeys};
 ghost use Rattle.key_record.specs.Suites.{isSuite, keySize};
-ghost use Rattle.key_record.specs.inner.Judging.{holdingMark, counterFits, windowFits, zerosFrom, fieldsFit};
+ghost use Rattle.key_record.specs.inner.Judging.{block, zeroIn, holdingMark, counterFits, hasOpened, windowFits, fieldsFit};
 use crate::COUNTER;
 use crate::EMPTY;
 use crate::HIGHEST;
@@ -21,8 +22,12 @@ use crate::SENDING;
 use crate::SPENT;
 use crate::SUITE;
 use crate::VERSION;
+use suites::sizes::Aes128GcmSha256;
 use suites::sizes::Found;
 use window::Window;
+
+// The room for a key is tested for zeros in blocks of so many bytes: fixed lengths compile to few instructions.
+const BLOCK: usize = 16;
 
 // Whether there is a suite of that number.
 fn is_suite(n: u8) -> bool
@@ -31,16 +36,6 @@ fn is_suite(n: u8) -> bool
     match suites::sizes::find(n as u64) {
         Found::Known(_) => true,
         Found::Unknown => false,
-    }
-}
-
-// Nk of a suite; 0 where there is none.
-fn key_size(n: u8) -> usize
-    ensures { λ r. ⌜ (r ≡ keySize n) × (r ≤ keyRoom) ⌝ }
-{
-    match suites::sizes::find(n as u64) {
-        Found::Known(suite) => suite.key_size(),
-        Found::Unknown => 0,
     }
 }
 
@@ -55,6 +50,58 @@ fn is_zero(b: &[u8]) -> bool
         i += 1;
     }
     any == 0
+}
+
+// Whether the bytes of a block from an offset on are zero.
+fn zero_block(row: &[u8], from: usize) -> bool
+    requires { ⌜ from + block ≤ length (now row) ⌝ }
+    ensures { λ r. ⌜ r ≡ zeroIn from block (now (row .entry)) ⌝ }
+{
+    let mut any: u8 = 0;
+    let mut i = 0;
+    while i < BLOCK {
+        any = any | row[from + i];
+        i += 1;
+    }
+    any == 0
+}
+
+// Whether salt and key are wiped, as a retired record's are.
+fn is_wiped(row: &[u8]) -> bool
+    requires { ⌜ length (now row) ≡ recordSize ⌝ }
+    ensures { λ r. ⌜ r ≡ zeroIn saltAt (highestAt - saltAt) (now (row .entry)) ⌝ }
+{
+    if octets::read_be64(&row[SALT..]) != 0 {
+        return false;
+    }
+    if octets::read_be32(&row[SALT + 8..]) != 0 {
+        return false;
+    }
+    if !zero_block(row, KEY) {
+        return false;
+    }
+    if !zero_block(row, KEY + BLOCK) {
+        return false;
+    }
+    zero_block(row, KEY + 2 * BLOCK)
+}
+
+// Whether zeros follow a key of that suite up to the window. A key has three blocks, with Gcm128 one, with Gcm256 two.
+fn key_ends(row: &[u8], suite: u8) -> bool
+    requires { ⌜ (length (now row) ≡ recordSize) × (isSuite suite ≡ true) ⌝ }
+    ensures { λ r. ⌜ r ≡ zeroIn (keyAt + keySize suite) (highestAt - (keyAt + keySize suite)) (now (row .entry)) ⌝ }
+{
+    let number = suite as u64;
+    if number < Aes128GcmSha256::NUMBER {
+        return true;
+    }
+    if !zero_block(row, KEY + 2 * BLOCK) {
+        return false;
+    }
+    if number != Aes128GcmSha256::NUMBER {
+        return true;
+    }
+    zero_block(row, KEY + BLOCK)
 }
 
 // Whether mark is that of a non-empty record.
@@ -96,27 +143,29 @@ pub fn window_in(row: &[u8]) -> Window
     Window { highest, mask }
 }
 
-// Whether a window fits a record with that mark.
-fn window_fits(mark: u8, w: Window) -> bool
-    ensures { λ r. ⌜ r ≡ windowFits mark w ⌝ }
+// Whether a record is for receiving and its window says that something was opened: the lowest bit of its mask is set.
+fn has_opened(row: &[u8]) -> bool
+    requires { ⌜ length (now row) ≡ recordSize ⌝ }
+    ensures { λ r. ⌜ r ≡ hasOpened (now (row .entry)) ⌝ }
 {
-    if mark == RECEIVING {
-        return window::is_sound(w);
-    }
-    if w.highest != 0 {
+    if row[MARK] != RECEIVING {
         return false;
     }
-    w.mask == 0
+    row[MASK + 7] % 2 == 1
 }
 
-// Where the zeros begin that end at the window, in a record with that mark and that suite.
-fn zeros_from(mark: u8, suite: u8) -> usize
-    ensures { λ r. ⌜ (r ≡ zerosFrom mark suite) × (r ≤ highestAt) ⌝ }
+// Whether a record's window fits its mark. Where nothing was opened its two fields are zero.
+fn window_fits(row: &[u8]) -> bool
+    requires { ⌜ length (now row) ≡ recordSize ⌝ }
+    ensures { λ r. ⌜ r ≡ windowFits (getD (now (row .entry)) markAt 0) (windowIn (now (row .entry))) ⌝ }
 {
-    if mark == RETIRED {
-        return SALT;
+    if has_opened(row) {
+        return window::is_sound(window_in(row));
     }
-    KEY + key_size(suite)
+    if octets::read_be64(&row[HIGHEST..]) != 0 {
+        return false;
+    }
+    octets::read_be64(&row[MASK..]) == 0
 }
 
 // Whether the fields of a non-empty record's bytes are in range.
@@ -133,7 +182,7 @@ fn fields_fit(row: &[u8]) -> bool
     if !counter_fits(row[MARK], row[SPENT], octets::read_be64(&row[COUNTER..])) {
         return false;
     }
-    window_fits(row[MARK], window_in(row))
+    window_fits(row)
 }
 
 // Whether a record's bytes obey their row.
@@ -150,6 +199,8 @@ pub fn obeys_row(row: &[u8]) -> bool
     if !fields_fit(row) {
         return false;
     }
-    let from = zeros_from(row[MARK], row[SUITE]);
-    is_zero(&row[from..HIGHEST])
+    if row[MARK] == RETIRED {
+        return is_wiped(row);
+    }
+    key_ends(row, row[SUITE])
 }

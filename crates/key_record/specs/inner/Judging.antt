@@ -3,15 +3,15 @@
 -- Assumes nothing.
 use mathlib.Core.Bool.{Bool, true}
 use mathlib.Core.List.{List, _∷_, _++_}
-use Prim.Native.Nat.{ℕ, _+_, _-_}
+use Prim.Native.Nat.{ℕ, _+_, _-_, _%_}
 use lib.Dec.{leb, eqb}
 use lib.ListN.{length, getD, take, drop, replicate}
-use Rattle.octets.specs.Octets.{number, pick, both}
+use Rattle.octets.specs.Octets.{number, same, pick, both}
 use Rattle.window.specs.Window.{fresh, fits as inOrder}
 use Rattle.window.specs.declared.Window.{Window}
-use Rattle.key_record.specs.Layout.{markAt, suiteAt, spentAt, versionAt, counterAt, saltAt, keyAt, sendingMark, receivingMark, retiredMark, layoutVersion, windowIn, row}
+use Rattle.key_record.specs.Layout.{markAt, suiteAt, spentAt, versionAt, counterAt, saltAt, maskAt, sendingMark, receivingMark, retiredMark, layoutVersion, windowIn, row}
 use Rattle.key_record.specs.Record.{ceiling}
-use Rattle.key_record.specs.Suites.{isSuite, keySize}
+use Rattle.key_record.specs.Suites.{isSuite}
 
 -- The mark of a non-empty record.
 unfoldable pub holdingMark : ℕ → Bool
@@ -27,9 +27,17 @@ unfoldable pub counterFits : (mark spent counter : ℕ) → Bool
 counterFits mark spent counter =
     pick (eqb mark receivingMark) (both (eqb spent 0) (eqb counter 0)) (pick (eqb spent 0) true (both (eqb spent 1) (eqb counter lastCounter)))
 
--- Where the zeros begin that end at the window, by mark and suite.
-unfoldable pub zerosFrom : ℕ → ℕ → ℕ
-zerosFrom mark suite = pick (eqb mark retiredMark) saltAt (keyAt + keySize suite)
+-- How many bytes are tested for zeros at a time.
+abbrev pub block : ℕ
+block = 16
+
+-- The n bytes from a place on are zero.
+unfoldable pub zeroIn : (from n : ℕ) → List ℕ → Bool
+zeroIn from n l = same (replicate n 0) (take n (drop from l))
+
+-- A record is for receiving, and the last byte of its mask is odd: the highest counter has its bit.
+unfoldable pub hasOpened : List ℕ → Bool
+hasOpened l = both (eqb (getD l markAt 0) receivingMark) (eqb (getD l (maskAt + 7) 0 % 2) 1)
 
 -- A window, by mark: in order where a record is for receiving; else its two fields are zero.
 unfoldable pub windowFits : (mark : ℕ) (w : Window) → Bool

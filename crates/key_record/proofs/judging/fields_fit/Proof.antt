@@ -19,7 +19,7 @@ abbrev to-start-from-else2 : tie.Else2 → tie.Start
 to-start-from-else2 c = c .before .before .before .before .before .before
 
 abbrev to-counter-fits : tie.After-window-fits → tie.After-counter-fits
-to-counter-fits c = c .before .before .before .before
+to-counter-fits c = c .before .before
 
 abbrev to-else2-from-counter-fits : tie.After-counter-fits → tie.Else2
 to-else2-from-counter-fits c = c .before .before .before .before .before
@@ -47,7 +47,7 @@ returns-4 c =
     let at-counter-fits = to-counter-fits c in
     let at-else2 = to-else2-from-counter-fits at-counter-fits in
     let at-start = to-start-from-else2 at-else2 in
-    fields-window (at-start .args .row .now) (told-true _ _ (at-else2 .before .before .before .is-suite .ensures) (at-else2 .before .before .if1 .left)) (at-else2 .if2 .left) _ _ (at-counter-fits .before .read-be64 .ensures) (at-counter-fits .counter-fits .ensures) (c .before .before .before .if3 .left) _ _ (c .before .window-in .ensures) (c .window-fits .ensures)
+    fields-window (at-start .args .row .now) (told-true _ _ (at-else2 .before .before .before .is-suite .ensures) (at-else2 .before .before .if1 .left)) (at-else2 .if2 .left) _ _ (at-counter-fits .before .read-be64 .ensures) (at-counter-fits .counter-fits .ensures) (c .before .if3 .left) _ (c .window-fits .ensures)
 
 pub fields-fit-spec : {M : Type 1} → statement M
 fields-fit-spec =
@@ -66,7 +66,5 @@ fields-fit-spec =
     (λ c κs. search needs)
     (λ c κs. search needs)
     returns-3
-    (λ c. search needs)
-    (λ c κs. search needs)
     (λ c κs. search needs)
     returns-4)

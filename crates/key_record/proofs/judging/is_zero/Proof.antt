@@ -3,7 +3,7 @@ use Prim.Native.Nat.{_-_, _≤_}
 use native.Mathlib.Omega.{arith}
 use lib.ListN.{length, take, replicate}
 use borrow.Author.Needs.{needs}
-use Rattle.key_record.proofs.Rows.{any-next, any-before, any-done}
+use Rattle.key_record.proofs.Zeros.{any-next, any-before, any-done}
 use Rattle.key_record.proofs.judging.is_zero.Statement.{statement}
 use Rattle.key_record.proofs.judging.is_zero.Tie as tie
 
