@@ -2,15 +2,15 @@
 
 mod arguments;
 mod commands;
-#[path = "../../../../sframe/src/bin/sframe/disk.rs"]
+#[path = "../../tool/src/disk.rs"]
 mod disk;
 mod failure;
 mod help;
-#[path = "../../../../sframe/src/bin/sframe/hex.rs"]
+#[path = "../../tool/src/hex.rs"]
 mod hex;
-#[path = "../../../../sframe/src/bin/sframe/input.rs"]
+#[path = "../../tool/src/input.rs"]
 mod input;
-#[path = "../../../../sframe/src/bin/sframe/store_file.rs"]
+#[path = "../../tool/src/store_file.rs"]
 mod store_file;
 
 use arguments::Command;
