@@ -73,7 +73,7 @@ fn page_of(name: &str) -> Result<String, Failure> {
 
 /// The store with the new last pair is on the disk before the object is given
 /// out.
-fn seal(disk: &mut impl Disk, object: &Object, out: &mut impl Console) -> Result<(), Failure> {
+fn seal<D: Disk>(disk: &mut D, object: &Object, out: &mut impl Console) -> Result<(), Failure> {
     let plaintext = object.input.read(MAX_PLAINTEXT)?;
     let properties = properties(object)?;
     let content = match object.hex {
@@ -82,8 +82,9 @@ fn seal(disk: &mut impl Disk, object: &Object, out: &mut impl Console) -> Result
     };
     let files = [("the store itself", object.store.as_path())];
     let output = &object.output;
-    output.write(disk, out, content, &spared(&files), |disk| {
-        let sealed = change(disk, &object.store, object.wait, |bytes| {
+    output.write(disk, out, content, &spared(&files), |disk, slot| {
+        let ready = |disk: &mut D| slot.make_ready(disk);
+        let sealed = change_for(disk, &object.store, object.wait, ready, |bytes| {
             let track = object.track.as_track();
             let properties = Properties(&properties);
             TrackStore::over(bytes).seal_to_vec(track, object.at, properties, &plaintext)
@@ -105,7 +106,7 @@ fn open(disk: &mut impl Disk, object: &Object, out: &mut impl Console) -> Result
     let files = [("the store itself", object.store.as_path())];
     let spared = spared(&files);
     let output = &object.output;
-    output.write(disk, out, Content::Binary, &spared, |disk| {
+    output.write(disk, out, Content::Binary, &spared, |disk, _| {
         let mut bytes = StoreFile::at(&object.store)?.read(disk, MAX_STORE)?;
         let store = TrackStore::over(&mut bytes);
         let track = object.track.as_track();
@@ -170,6 +171,18 @@ fn change<T>(
     wait: Wait,
     call: impl FnOnce(&mut [u8]) -> Result<T, Refusal>,
 ) -> Result<T, Failure> {
+    change_for(disk, path, wait, |_| Ok(()), call)
+}
+
+/// Likewise. Once the store is locked, and before anything is changed, `ready`
+/// is called.
+fn change_for<D: Disk, T>(
+    disk: &mut D,
+    path: &Path,
+    wait: Wait,
+    ready: impl FnOnce(&mut D) -> Result<(), Fault>,
+    call: impl FnOnce(&mut [u8]) -> Result<T, Refusal>,
+) -> Result<T, Failure> {
     let file = StoreFile::at(path)?;
     // What is no store gets no lock.
     if !is_store(&file.read(disk, MAX_STORE)?) {
@@ -179,6 +192,7 @@ fn change<T>(
     let _lock = file.lock(Some(owner), wait)?;
     let owner = file.check_changeable(disk)?;
     let mut bytes = file.read(disk, MAX_STORE)?;
+    ready(disk)?;
     let answer = call(&mut bytes)?;
     file.replace(disk, &bytes, Some(owner))?;
     Ok(answer)

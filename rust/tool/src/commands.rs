@@ -16,7 +16,7 @@ use std::path::Path;
 use toolkit::console::{give, Console};
 use toolkit::disk::Disk;
 use toolkit::fault::Fault;
-use toolkit::output::{Content, Output, Spared};
+use toolkit::output::{Content, Output, Slot, Spared};
 use toolkit::store_file::StoreFile;
 use toolkit::{hex, key, pages};
 
@@ -184,7 +184,7 @@ fn write_key(
     out: &mut impl Console,
 ) -> Result<(), Failure> {
     let bytes = written(key.to_vec(), as_hex);
-    output.write(disk, out, Content::Key, &spared(&[]), |_| Ok(bytes))
+    output.write(disk, out, Content::Key, &spared(&[]), |_, _| Ok(bytes))
 }
 
 /// The bytes themselves, or as a line of hex.
@@ -245,6 +245,19 @@ fn change<T>(
     kid: Option<Kid>,
     call: impl FnOnce(&mut [u8]) -> Result<T, Refusal>,
 ) -> Result<T, Failure> {
+    change_for(disk, path, wait, kid, |_| Ok(()), call)
+}
+
+/// Likewise. Once the store is locked, and before anything is changed, `ready`
+/// is called.
+fn change_for<D: Disk, T>(
+    disk: &mut D,
+    path: &Path,
+    wait: Wait,
+    kid: Option<Kid>,
+    ready: impl FnOnce(&mut D) -> Result<(), Fault>,
+    call: impl FnOnce(&mut [u8]) -> Result<T, Refusal>,
+) -> Result<T, Failure> {
     let file = StoreFile::at(path)?;
     // What is no store gets no lock.
     read_sound(disk, &file)?;
@@ -252,6 +265,7 @@ fn change<T>(
     let _lock = file.lock(Some(owner), wait)?;
     let owner = file.check_changeable(disk)?;
     let mut bytes = file.read(disk, MAX_STORE)?;
+    ready(disk)?;
     let answer = call(&mut bytes).map_err(|refusal| explained(refusal, &bytes, kid))?;
     file.replace(disk, &bytes, Some(owner))?;
     Ok(answer)
@@ -367,8 +381,8 @@ impl Sealing<'_> {
         let mut files = vec![("the store itself", self.store)];
         files.extend(log.as_ref().map(|log| ("the log", log.file.path())));
         let output = &self.streams.output;
-        output.write(disk, out, content, &spared(&files), |disk| {
-            let packet = self.seal(disk, &plaintext, &metadata)?;
+        output.write(disk, out, content, &spared(&files), |disk, slot| {
+            let packet = self.seal(disk, slot, &plaintext, &metadata)?;
             if let Some(OpenLog { file, pairs }) = log {
                 let header = read_header(&packet.bytes[packet.offset..])?;
                 file.append(disk, pairs, self.kid, header.ctr)?;
@@ -379,16 +393,18 @@ impl Sealing<'_> {
 
     /// Seals a frame. The store with the new counter is on the disk before the
     /// frame is answered.
-    fn seal(
+    fn seal<D: Disk>(
         &self,
-        disk: &mut impl Disk,
+        disk: &mut D,
+        slot: &mut Slot<D::File>,
         plaintext: &[u8],
         metadata: &[u8],
     ) -> Result<Packet, Failure> {
         let (mut room, offset) = room_at(self.offset, MAX_FRAME);
-        let sealed = change(disk, self.store, self.wait, Some(self.kid), |bytes| {
+        let (kid, ready) = (self.kid, |disk: &mut D| slot.make_ready(disk));
+        let sealed = change_for(disk, self.store, self.wait, Some(kid), ready, |bytes| {
             let metadata = Metadata(metadata);
-            Store::over(bytes).seal_at(self.kid, metadata, plaintext, &mut room, offset)
+            Store::over(bytes).seal_at(kid, metadata, plaintext, &mut room, offset)
         });
         let length =
             sealed.map_err(|failure| too_long(failure, plaintext.len(), metadata.len()))?;
@@ -417,8 +433,8 @@ fn too_long(failure: Failure, plaintext: usize, metadata: usize) -> Failure {
 /// Opens a frame. The store that remembers its counter is on the disk before the
 /// plaintext is answered: a run that is stopped between may lose a picture, but
 /// no picture is given out twice.
-fn open(
-    disk: &mut impl Disk,
+fn open<D: Disk>(
+    disk: &mut D,
     path: &Path,
     streams: &Streams,
     wait: Wait,
@@ -430,8 +446,9 @@ fn open(
     let files = [("the store itself", path)];
     let spared = spared(&files);
     let output = &streams.output;
-    output.write(disk, out, Content::Binary, &spared, |disk| {
-        let opened = change(disk, path, wait, kid, |bytes| {
+    output.write(disk, out, Content::Binary, &spared, |disk, slot| {
+        let ready = |disk: &mut D| slot.make_ready(disk);
+        let opened = change_for(disk, path, wait, kid, ready, |bytes| {
             Store::over(bytes).open_to_vec(&frame, Metadata(&metadata))
         });
         // Where the metadata is not too long, the plaintext is.

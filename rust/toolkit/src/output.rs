@@ -1,7 +1,7 @@
 //! A result that is written whole or not at all.
 
 use crate::console::{give, Console};
-use crate::disk::{Disk, PRIVATE, SHARED};
+use crate::disk::{Disk, Owner, PRIVATE, SHARED};
 use crate::fault::Fault;
 use crate::place::Place;
 use crate::store_file::{beside, check_link, folder, is_reserved, is_same};
@@ -42,17 +42,23 @@ pub struct Spared<'a> {
     pub longest: usize,
 }
 
-/// A place that is ready for the result.
-enum Ready<F> {
+/// Where a result will be.
+enum Plan {
     Standard,
     /// A device or a pipe.
     Special(File),
     /// A file of another name until it is whole.
-    New {
-        file: F,
-        temporary: PathBuf,
-        path: PathBuf,
-    },
+    File(PathBuf),
+}
+
+/// A place for a result, which has been looked at.
+pub struct Slot<'a, F> {
+    output: &'a Output,
+    plan: Plan,
+    /// That of the file which is replaced.
+    owner: Option<Owner>,
+    mode: u32,
+    made: Option<F>,
 }
 
 impl Output {
@@ -65,35 +71,48 @@ impl Output {
         }
     }
 
-    /// Makes a place ready, has the result made, and writes it. What is wrong
-    /// with the place is found before `make` is called, as far as it can be.
+    /// Looks at the place, has the result made, and writes it. What is wrong with
+    /// the place is found before `make` is called, as far as it can be seen, and
+    /// else by [`Slot::make_ready`], which `make` calls before it changes
+    /// anything.
     pub fn write<D: Disk, E: From<Fault>>(
         &self,
         disk: &mut D,
         out: &mut impl Console,
         content: Content,
         spared: &Spared,
-        make: impl FnOnce(&mut D) -> Result<Vec<u8>, E>,
+        make: impl FnOnce(&mut D, &mut Slot<D::File>) -> Result<Vec<u8>, E>,
     ) -> Result<(), E> {
-        let ready = self.prepare(disk, out, content, spared)?;
-        match (make(disk), ready) {
-            (Ok(bytes), ready) => Ok(self.finish(disk, out, ready, &bytes)?),
-            (Err(error), Ready::New { temporary, .. }) => {
-                // The first failure is the one to tell.
-                let _ = disk.remove(&temporary);
-                Err(error)
-            }
-            (Err(error), _) => Err(error),
+        let mut slot = self.look(disk, out, content, spared)?;
+        let written = make(disk, &mut slot).and_then(|bytes| {
+            slot.make_ready(disk)?;
+            Ok(slot.fill(disk, out, &bytes)?)
+        });
+        if written.is_err() {
+            // The first failure is the one to tell.
+            slot.give_up(disk);
         }
+        written
     }
 
-    fn prepare<D: Disk>(
+    fn look<D: Disk>(
         &self,
         disk: &mut D,
         out: &impl Console,
         content: Content,
         spared: &Spared,
-    ) -> Result<Ready<D::File>, Fault> {
+    ) -> Result<Slot<'_, D::File>, Fault> {
+        let mut slot = Slot {
+            output: self,
+            plan: Plan::Standard,
+            owner: None,
+            mode: if content == Content::Key {
+                PRIVATE
+            } else {
+                SHARED
+            },
+            made: None,
+        };
         let Place::File(named) = &self.place else {
             return match (out.is_terminal(), content, self.named) {
                 (true, Content::Key, _) => Err(Fault::usage("a key is not shown on a terminal")),
@@ -101,17 +120,17 @@ impl Output {
                     "the result is not text, and would go to the terminal: \
                      give --out FILE, or --out - if that is meant",
                 )),
-                _ => Ok(Ready::Standard),
+                _ => Ok(slot),
             };
         };
         spare(named, spared)?;
         // A link is not what gets replaced.
         let path = named.canonicalize().unwrap_or_else(|_| named.clone());
-        let mut owner = None;
         if let Some(status) = disk.status(&path).map_err(Fault::at(named))? {
             if !status.regular {
                 let opened = OpenOptions::new().write(true).open(&path);
-                return Ok(Ready::Special(opened.map_err(Fault::at(named))?));
+                slot.plan = Plan::Special(opened.map_err(Fault::at(named))?);
+                return Ok(slot);
             }
             match (content, self.force) {
                 (Content::Key, _) => {
@@ -124,61 +143,67 @@ impl Output {
                 }
                 (_, true) => spare_stores_and_keys(disk, &path, status.owner.mode, spared)?,
             }
-            owner = Some(status.owner);
+            slot.owner = Some(status.owner);
         }
-        let temporary = beside(&path, ".", &format!(".{}.new", process::id()));
-        let mode = match content {
-            Content::Key => PRIVATE,
-            _ => SHARED,
+        slot.plan = Plan::File(path);
+        Ok(slot)
+    }
+}
+
+impl<F> Slot<'_, F> {
+    /// Makes the file, under another name, that the result will be written to.
+    /// Whoever has to wait before calls this behind the wait: a run that is
+    /// interrupted there leaves nothing.
+    pub fn make_ready(&mut self, disk: &mut impl Disk<File = F>) -> Result<(), Fault> {
+        let (Plan::File(path), Place::File(named)) = (&self.plan, &self.output.place) else {
+            return Ok(());
         };
-        let mut file = disk.create(&temporary, mode).map_err(Fault::at(named))?;
-        if let Some(owner) = owner {
-            // Where the file is another's, the one in its place is the user's own.
-            let _ = disk.give_to(&mut file, owner);
+        if self.made.is_some() {
+            return Ok(());
         }
-        Ok(Ready::New {
-            file,
-            temporary,
-            path,
-        })
+        let created = disk.create(&temporary(path), self.mode);
+        let file = self.made.insert(created.map_err(Fault::at(named))?);
+        match self.owner {
+            Some(owner) => disk.give_to(file, owner).map_err(Fault::at(named)),
+            None => Ok(()),
+        }
     }
 
-    fn finish<D: Disk>(
-        &self,
-        disk: &mut D,
+    fn fill(
+        &mut self,
+        disk: &mut impl Disk<File = F>,
         out: &mut impl Console,
-        ready: Ready<D::File>,
         bytes: &[u8],
     ) -> Result<(), Fault> {
-        match (ready, &self.place) {
-            (Ready::Special(mut file), Place::File(path)) => {
-                file.write_all(bytes).map_err(Fault::at(path))
+        match (&mut self.plan, &mut self.made, &self.output.place) {
+            (Plan::Special(file), _, Place::File(named)) => {
+                file.write_all(bytes).map_err(Fault::at(named))
             }
-            (
-                Ready::New {
-                    mut file,
-                    temporary,
-                    path,
-                },
-                Place::File(named),
-            ) => {
-                let written = disk
-                    .write(&mut file, bytes)
-                    .and_then(|()| disk.sync(&mut file))
-                    .and_then(|()| match self.force {
-                        true => disk.rename(&temporary, &path),
-                        false => disk.rename_new(&temporary, &path),
-                    });
-                if let Err(error) = written {
-                    let _ = disk.remove(&temporary);
-                    return Err(Fault::at(named)(error));
-                }
-                let folder = folder(&path);
+            (Plan::File(path), Some(file), Place::File(named)) => {
+                disk.write(file, bytes)
+                    .and_then(|()| disk.sync(file))
+                    .and_then(|()| match self.output.force {
+                        true => disk.rename(&temporary(path), path),
+                        false => disk.rename_new(&temporary(path), path),
+                    })
+                    .map_err(Fault::at(named))?;
+                let folder = folder(path);
                 disk.sync_folder(folder).map_err(Fault::at(folder))
             }
             _ => give(out, bytes),
         }
     }
+
+    fn give_up(&self, disk: &mut impl Disk<File = F>) {
+        if let (Plan::File(path), Some(_)) = (&self.plan, &self.made) {
+            let _ = disk.remove(&temporary(path));
+        }
+    }
+}
+
+/// The name of a result until it is whole, which is of this process alone.
+fn temporary(path: &Path) -> PathBuf {
+    beside(path, ".", &format!(".{}.new", process::id()))
 }
 
 /// Refuses a path that no result goes to, whatever is there.

@@ -484,7 +484,8 @@ fn a_result_that_fails_keeps_the_earlier_file() {
         let mut names = disk.names();
         names.sort();
         assert_eq!(names, [frame.clone(), setup.store()], "failed at {step}");
-        let bytes = disk.clone().read(&frame, 1_000).unwrap();
+        let mut disk = disk.restarted(Unsynced::Kept, Unsynced::Kept);
+        let bytes = disk.read(&frame, 1_000).unwrap();
         if done {
             assert_eq!(bytes.len(), 2 + 9 + 16);
             break;

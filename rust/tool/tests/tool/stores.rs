@@ -81,6 +81,16 @@ fn waiting_for_another_run() {
     assert!(lines[0].contains("ward.lock"), "{message}");
     assert!(!folder.path("frame").exists());
 
+    // One that is interrupted while it waits leaves nothing.
+    let files = folder.files();
+    let mut child = folder.command(SEAL).spawn().unwrap();
+    let mut said = String::new();
+    let mut stderr = BufReader::new(child.stderr.take().unwrap());
+    stderr.read_line(&mut said).unwrap();
+    child.kill().unwrap();
+    child.wait().unwrap();
+    assert_eq!(folder.files(), files);
+
     // Without a bound it goes on once the other ends.
     let mut child = folder.command(SEAL).spawn().unwrap();
     let mut said = String::new();
