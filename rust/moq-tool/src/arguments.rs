@@ -5,23 +5,16 @@ use crate::help::TOOL;
 use moq::{Location, Role};
 use std::ffi::OsString;
 use std::path::PathBuf;
-use std::time::Duration;
 use toolkit::fault::Fault;
 use toolkit::hex;
 use toolkit::output::Output;
 use toolkit::place::Place;
-use toolkit::words::{one_standard_input, Line, Words};
-
-/// How long to wait for another run that has the store; for ever where nothing
-/// is said.
-pub type Wait = Option<Duration>;
+use toolkit::store_file::Wait;
+use toolkit::words::{one_standard_input, About, Line, Words};
 
 /// What a run is asked to do.
 pub enum Command {
-    /// Shows the help of a command, or of all.
-    Help(Option<&'static str>),
-    Version,
-    Pages(String),
+    About(About),
     Make {
         store: PathBuf,
         tracks: u64,
@@ -68,8 +61,7 @@ impl Command {
     /// The command that the arguments spell, without the program's name.
     pub fn parse(arguments: impl Iterator<Item = OsString>) -> Result<Command, Failure> {
         let (spec, mut words) = match Line::parse(&TOOL, arguments)? {
-            Line::Help(spec) => return Ok(Command::Help(spec.map(|spec| spec.name))),
-            Line::Version => return Ok(Command::Version),
+            Line::About(about) => return Ok(Command::About(about)),
             Line::Command(spec, words) => (spec, words),
         };
         let command = match spec.name {
@@ -94,10 +86,6 @@ impl Command {
             },
             "seal" => Command::Seal(object(&mut words)?),
             "open" => Command::Open(object(&mut words)?),
-            "pages" => {
-                let page = words.plain("which page is missing")?;
-                Command::Pages(page.to_str().unwrap_or_default().into())
-            }
             other => unreachable!("{other} is offered and not read"),
         };
         words.finish()?;

@@ -1,6 +1,6 @@
 //! What each command does.
 
-use crate::arguments::{Command, Object, OwnTrack, Wait};
+use crate::arguments::{Command, Object, OwnTrack};
 use crate::failure::Failure;
 use crate::help::TOOL;
 use crate::MAX_STORE;
@@ -13,7 +13,7 @@ use toolkit::console::{give, Console};
 use toolkit::disk::Disk;
 use toolkit::fault::Fault;
 use toolkit::output::{Content, Spared};
-use toolkit::store_file::StoreFile;
+use toolkit::store_file::{StoreFile, Wait};
 use toolkit::{hex, key, pages};
 
 /// The longest object; the suite is one with the longest tag.
@@ -22,9 +22,10 @@ const MAX_OBJECT: usize = MAX_PLAINTEXT + Suite::Aes128GcmSha256_128.nt();
 /// Runs a command. What it has to say goes to `out`.
 pub fn run(command: Command, disk: &mut impl Disk, out: &mut impl Console) -> Result<(), Failure> {
     match command {
-        Command::Help(name) => print(out, &help(name)),
-        Command::Version => print(out, &format!("{} {}\n", TOOL.name, TOOL.version)),
-        Command::Pages(page) => print(out, &page_of(&page)?),
+        Command::About(about) => {
+            let text = pages::about(&TOOL, &about)?;
+            Ok(give(out, text.as_bytes())?)
+        }
         Command::Make {
             store,
             tracks,
@@ -49,25 +50,6 @@ pub fn run(command: Command, disk: &mut impl Disk, out: &mut impl Console) -> Re
         }),
         Command::Seal(object) => seal(disk, &object, out),
         Command::Open(object) => open(disk, &object, out),
-    }
-}
-
-fn print(out: &mut impl Console, text: &str) -> Result<(), Failure> {
-    Ok(give(out, text.as_bytes())?)
-}
-
-fn help(name: Option<&str>) -> String {
-    match name.and_then(|name| TOOL.command(name)) {
-        Some(spec) => pages::help_of(&TOOL, spec),
-        None => pages::help(&TOOL),
-    }
-}
-
-fn page_of(name: &str) -> Result<String, Failure> {
-    match name {
-        "man" => Ok(pages::manual(&TOOL)),
-        _ => pages::completions(&TOOL, name)
-            .ok_or_else(|| Failure::usage("the pages are man, bash, zsh and fish")),
     }
 }
 
@@ -147,21 +129,7 @@ fn make(disk: &mut impl Disk, path: &Path, tracks: u64, wait: Wait) -> Result<()
         return Err(Failure::Explained(refusal, text));
     }
 
-    // What is there already gets no lock.
-    check_free(disk, &file)?;
-    let _lock = file.lock(None, wait)?;
-    check_free(disk, &file)?;
-    Ok(file.replace(disk, &bytes, None)?)
-}
-
-fn check_free(disk: &mut impl Disk, file: &StoreFile) -> Result<(), Failure> {
-    match file.status(disk)? {
-        None => Ok(()),
-        Some(_) => {
-            let text = "there is a file already, and a store is never made over one";
-            Err(Fault::unfit(file.path(), text).into())
-        }
-    }
+    Ok(file.make(disk, &bytes, wait)?)
 }
 
 /// Makes a call that changes the store, and keeps the store if it is done.
@@ -183,19 +151,12 @@ fn change_for<D: Disk, T>(
     ready: impl FnOnce(&mut D) -> Result<(), Fault>,
     call: impl FnOnce(&mut [u8]) -> Result<T, Refusal>,
 ) -> Result<T, Failure> {
-    let file = StoreFile::at(path)?;
-    // What is no store gets no lock.
-    if !is_store(&file.read(disk, MAX_STORE)?) {
-        return Err(Refusal::StoreNotSound.into());
-    }
-    let owner = file.check_changeable(disk)?;
-    let _lock = file.lock(Some(owner), wait)?;
-    let owner = file.check_changeable(disk)?;
-    let mut bytes = file.read(disk, MAX_STORE)?;
-    ready(disk)?;
-    let answer = call(&mut bytes)?;
-    file.replace(disk, &bytes, Some(owner))?;
-    Ok(answer)
+    let judge = |bytes: &[u8]| match is_store(bytes) {
+        true => Ok(()),
+        false => Err(Failure::from(Refusal::StoreNotSound)),
+    };
+    let call = |bytes: &mut [u8]| Ok(call(bytes)?);
+    StoreFile::at(path)?.change(disk, MAX_STORE, wait, judge, ready, call)
 }
 
 /// Whether the bytes are a sound store. Removing judges it before it looks for a

@@ -1,7 +1,7 @@
 //! What the tool offers, in the words of its help.
 
 use toolkit::spec::Takes::{File, Nothing, Word};
-use toolkit::spec::{Spec, Takes, Tool};
+use toolkit::spec::{Spec, Takes, Tool, PAGES};
 
 const NUMBER: Takes = Word(&[]);
 const SUITE: Takes = Word(&["1", "2", "3", "4", "5"]);
@@ -79,14 +79,7 @@ Opens an object; with --hex it is read in hex. Name, Key ID, pair and properties
 must be those of its sealing. The store stays as it is.",
             options: OBJECT.split_at(OBJECT.len() - 1).0,
         },
-        Spec {
-            name: "pages",
-            summary: "prints the manual page or a shell's completions",
-            forms: &["man|bash|zsh|fish"],
-            text: "\
-Prints the manual page in the form that man reads, or the completions for a shell.",
-            options: &[],
-        },
+        PAGES,
     ],
     sections: &[
         (

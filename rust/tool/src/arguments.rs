@@ -5,22 +5,16 @@ use crate::help::TOOL;
 use sframe::{Ctr, EpochBits, GroupParts, GroupWidths, Kid, Role};
 use std::ffi::OsString;
 use std::path::PathBuf;
-use std::time::Duration;
+use toolkit::fault::Fault;
 use toolkit::output::Output;
 use toolkit::place::Place;
-use toolkit::words::{one_standard_input, Line, Words};
-
-/// How long to wait for another run that has the store; for ever where nothing
-/// is said.
-pub type Wait = Option<Duration>;
+use toolkit::store_file::Wait;
+use toolkit::words::{one_standard_input, About, Line, Words};
 
 /// What a run is asked to do.
 #[derive(Debug, PartialEq, Eq)]
 pub enum Command {
-    /// Shows the help of a command, or of all.
-    Help(Option<&'static str>),
-    Version,
-    Pages(String),
+    About(About),
     Make {
         store: PathBuf,
         keys: u64,
@@ -116,8 +110,7 @@ impl Command {
     /// The command that the arguments spell, without the program's name.
     pub fn parse(arguments: impl Iterator<Item = OsString>) -> Result<Command, Failure> {
         let (spec, mut words) = match Line::parse(&TOOL, arguments)? {
-            Line::Help(spec) => return Ok(Command::Help(spec.map(|spec| spec.name))),
-            Line::Version => return Ok(Command::Version),
+            Line::About(about) => return Ok(Command::About(about)),
             Line::Command(spec, words) => (spec, words),
         };
         let command = match spec.name {
@@ -199,10 +192,6 @@ impl Command {
                 },
                 wait: words.wait()?,
             },
-            "pages" => {
-                let page = words.plain("which page is missing")?;
-                Command::Pages(page.to_str().unwrap_or_default().into())
-            }
             other => unreachable!("{other} is offered and not read"),
         };
         words.finish()?;
@@ -238,9 +227,10 @@ fn log(words: &mut Words) -> Result<Option<PathBuf>, Failure> {
     match words.value("--log").map(Place::from) {
         None => Ok(None),
         Some(Place::File(path)) => Ok(Some(path)),
-        Some(Place::Standard) => Err(Failure::usage(
-            "--log is read and replaced, so it must be a file",
-        )),
+        Some(Place::Standard) => {
+            let text = "--log is read and replaced, so it must be a file";
+            Err(Fault::usage(text).into())
+        }
     }
 }
 

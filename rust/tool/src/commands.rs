@@ -1,6 +1,6 @@
 //! What each command does.
 
-use crate::arguments::{Command, Streams, Wait};
+use crate::arguments::{Command, Streams};
 use crate::diagnosis;
 use crate::failure::Failure;
 use crate::help::TOOL;
@@ -17,7 +17,7 @@ use toolkit::console::{give, Console};
 use toolkit::disk::Disk;
 use toolkit::fault::Fault;
 use toolkit::output::{Content, Output, Slot, Spared};
-use toolkit::store_file::StoreFile;
+use toolkit::store_file::{StoreFile, Wait};
 use toolkit::{hex, key, pages};
 
 /// The longest frame that can be opened; the suite is one with the longest tag.
@@ -29,9 +29,7 @@ const MAX_OFFSET: usize = 65_536;
 /// Runs a command. What it has to say goes to `out`.
 pub fn run(command: Command, disk: &mut impl Disk, out: &mut impl Console) -> Result<(), Failure> {
     match command {
-        Command::Help(name) => print(out, &help(name)),
-        Command::Version => print(out, &format!("{} {}\n", TOOL.name, TOOL.version)),
-        Command::Pages(page) => print(out, &page_of(&page)?),
+        Command::About(about) => print(out, &pages::about(&TOOL, &about)?),
         Command::Keygen { bytes, hex, output } => keygen(disk, bytes, hex, &output, out),
         Command::Make { store, keys, wait } => make(disk, &store, keys, wait),
         Command::Add {
@@ -146,21 +144,6 @@ fn print(out: &mut impl Console, text: &str) -> Result<(), Failure> {
     Ok(give(out, text.as_bytes())?)
 }
 
-fn help(name: Option<&str>) -> String {
-    match name.and_then(|name| TOOL.command(name)) {
-        Some(spec) => pages::help_of(&TOOL, spec),
-        None => pages::help(&TOOL),
-    }
-}
-
-fn page_of(name: &str) -> Result<String, Failure> {
-    match name {
-        "man" => Ok(pages::manual(&TOOL)),
-        _ => pages::completions(&TOOL, name)
-            .ok_or_else(|| Failure::usage("the pages are man, bash, zsh and fish")),
-    }
-}
-
 fn keygen(
     disk: &mut impl Disk,
     bytes: u64,
@@ -206,34 +189,19 @@ fn make(disk: &mut impl Disk, path: &Path, keys: u64, wait: Wait) -> Result<(), 
         return Err(Failure::Explained(refusal, text));
     }
 
-    // What is there already gets no lock.
-    check_free(disk, &file)?;
-    let _lock = file.lock(None, wait)?;
-    check_free(disk, &file)?;
-    Ok(file.replace(disk, &bytes, None)?)
-}
-
-fn check_free(disk: &mut impl Disk, file: &StoreFile) -> Result<(), Failure> {
-    match file.status(disk)? {
-        None => Ok(()),
-        Some(_) => {
-            let text = "there is a file already, and a store is never made over one";
-            Err(Fault::unfit(file.path(), text).into())
-        }
-    }
+    Ok(file.make(disk, &bytes, wait)?)
 }
 
 /// The bytes of a sound store.
 fn read_store(disk: &mut impl Disk, path: &Path) -> Result<Vec<u8>, Failure> {
-    read_sound(disk, &StoreFile::at(path)?)
+    let bytes = StoreFile::at(path)?.read(disk, MAX_STORE)?;
+    judge(&bytes)?;
+    Ok(bytes)
 }
 
-fn read_sound(disk: &mut impl Disk, file: &StoreFile) -> Result<Vec<u8>, Failure> {
-    let bytes = file.read(disk, MAX_STORE)?;
-    match StoreView::over(&bytes).check() {
-        Ok(()) => Ok(bytes),
-        Err(refusal) => Err(explained(refusal, &bytes, None)),
-    }
+fn judge(bytes: &[u8]) -> Result<(), Failure> {
+    let judged = StoreView::over(bytes).check();
+    judged.map_err(|refusal| explained(refusal, bytes, None))
 }
 
 /// Makes a call that changes the store, and keeps the store if it is done. `kid`
@@ -258,17 +226,11 @@ fn change_for<D: Disk, T>(
     ready: impl FnOnce(&mut D) -> Result<(), Fault>,
     call: impl FnOnce(&mut [u8]) -> Result<T, Refusal>,
 ) -> Result<T, Failure> {
-    let file = StoreFile::at(path)?;
-    // What is no store gets no lock.
-    read_sound(disk, &file)?;
-    let owner = file.check_changeable(disk)?;
-    let _lock = file.lock(Some(owner), wait)?;
-    let owner = file.check_changeable(disk)?;
-    let mut bytes = file.read(disk, MAX_STORE)?;
-    ready(disk)?;
-    let answer = call(&mut bytes).map_err(|refusal| explained(refusal, &bytes, kid))?;
-    file.replace(disk, &bytes, Some(owner))?;
-    Ok(answer)
+    let call = |bytes: &mut [u8]| {
+        let answer = call(bytes);
+        answer.map_err(|refusal| explained(refusal, bytes, kid))
+    };
+    StoreFile::at(path)?.change(disk, MAX_STORE, wait, judge, ready, call)
 }
 
 /// A refusal, with what the store tells of its cause.
@@ -358,7 +320,7 @@ impl Sealing<'_> {
         out: &mut impl Console,
     ) -> Result<(), Failure> {
         if log.is_at(self.store) {
-            return Err(Failure::usage("--log is the store"));
+            return Err(Fault::usage("--log is the store").into());
         }
         let _lock = log.lock(disk, self.wait)?;
         let pairs = log.read(disk)?;

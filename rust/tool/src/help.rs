@@ -1,7 +1,7 @@
 //! What the tool offers, in the words of its help.
 
 use toolkit::spec::Takes::{File, Nothing, Word};
-use toolkit::spec::{Spec, Takes, Tool};
+use toolkit::spec::{Spec, Takes, Tool, PAGES};
 
 const NUMBER: Takes = Word(&[]);
 const SUITE: Takes = Word(&["1", "2", "3", "4", "5"]);
@@ -219,16 +219,7 @@ none. Numbers that were added for sending stay taken.",
                 ("--wait", NUMBER),
             ],
         },
-        Spec {
-            name: "pages",
-            summary: "prints the manual page or a shell's completions",
-            forms: &["man|bash|zsh|fish"],
-            text: "\
-Prints the manual page in the form that man reads, or the completions for a shell. \
-To have the latter at once in bash:
-  source <(sframe pages bash)",
-            options: &[],
-        },
+        PAGES,
     ],
     sections: &[
         (

@@ -5,10 +5,9 @@ use crate::failure::Failure;
 use sframe::{Ctr, Kid, StoreView};
 use std::fs::File;
 use std::path::Path;
-use std::time::Duration;
 use toolkit::disk::Disk;
 use toolkit::fault::Fault;
-use toolkit::store_file::StoreFile;
+use toolkit::store_file::{StoreFile, Wait};
 
 /// The bytes of a record, and the most of a log that `log_check` reads.
 const RECORD: usize = 16;
@@ -35,7 +34,7 @@ impl LogFile {
     }
 
     /// Waits until no other run writes to the log. What is no log gets no lock.
-    pub fn lock(&self, disk: &mut impl Disk, wait: Option<Duration>) -> Result<File, Failure> {
+    pub fn lock(&self, disk: &mut impl Disk, wait: Wait) -> Result<File, Failure> {
         self.read(disk)?;
         let owner = self.0.status(disk)?.map(|status| status.owner);
         Ok(self.0.lock(owner, wait)?)

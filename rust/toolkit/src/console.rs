@@ -1,6 +1,8 @@
 //! The standard streams: what a run says, and whether a person reads it.
 
 use crate::fault::Fault;
+use crate::spec::Tool;
+use std::env;
 use std::fmt;
 use std::io::{self, IsTerminal, StdoutLock, Write};
 use std::process::ExitCode;
@@ -66,16 +68,22 @@ macro_rules! say {
     ($($words:tt)*) => { $crate::console::say(format_args!($($words)*)) };
 }
 
-/// Ends a run: says what went wrong, unless the output was closed.
-pub fn end<E: fmt::Display>(run: Result<(), E>, status: impl Fn(&E) -> u8) -> ExitCode {
-    match run {
-        Ok(()) => ExitCode::SUCCESS,
-        Err(failure) => {
-            let status = status(&failure);
-            if status != Fault::ClosedPipe.status() {
-                note(&failure);
-            }
-            ExitCode::from(status)
-        }
+/// Runs a tool. What goes wrong is said in a line, unless the output was closed;
+/// a wrong command line is told with where the right ones are.
+pub fn main<E: fmt::Display>(
+    tool: &Tool,
+    run: impl FnOnce() -> Result<(), E>,
+    status: impl Fn(&E) -> u8,
+) -> ExitCode {
+    named(tool.name);
+    let Err(failure) = run() else {
+        return ExitCode::SUCCESS;
+    };
+    let status = status(&failure);
+    if status == Fault::usage("").status() {
+        note(format!("{failure}; {}", tool.hint(env::args_os().nth(1))));
+    } else if status != Fault::ClosedPipe.status() {
+        note(failure);
     }
+    ExitCode::from(status)
 }

@@ -7,6 +7,7 @@
 
 pub mod console;
 pub mod disk;
+pub mod failure;
 pub mod fault;
 pub mod hex;
 pub mod key;

@@ -1,12 +1,29 @@
 //! Help, manual page and completions, made from what a tool offers.
 
+use crate::fault::Fault;
 use crate::spec::{Spec, Takes, Tool};
+use crate::words::About;
 use std::fmt::Write;
 
 const WIDTH: usize = 80;
 
+/// What is asked about a tool.
+pub fn about(tool: &Tool, about: &About) -> Result<String, Fault> {
+    match about {
+        About::Version => Ok(format!("{} {}\n", tool.name, tool.version)),
+        About::Help(None) => Ok(help(tool)),
+        About::Help(Some(name)) => match tool.command(name) {
+            Some(spec) => Ok(help_of(tool, spec)),
+            None => Ok(help(tool)),
+        },
+        About::Page(page) if page == "man" => Ok(manual(tool)),
+        About::Page(page) => completions(tool, page)
+            .ok_or_else(|| Fault::usage("the pages are man, bash, zsh and fish")),
+    }
+}
+
 /// The help of all commands.
-pub fn help(tool: &Tool) -> String {
+fn help(tool: &Tool) -> String {
     let mut page = format!("{}: {}.\n\n", tool.name, tool.summary);
     page += &laid_out(tool.intro, 0);
     for spec in tool.commands {
@@ -23,7 +40,7 @@ pub fn help(tool: &Tool) -> String {
 }
 
 /// The help of one command.
-pub fn help_of(tool: &Tool, spec: &Spec) -> String {
+fn help_of(tool: &Tool, spec: &Spec) -> String {
     let name = tool.name;
     let mut page = String::new();
     for (at, form) in spec.forms.iter().enumerate() {
@@ -103,7 +120,7 @@ fn laid_out(text: &str, indent: usize) -> String {
 }
 
 /// The manual page.
-pub fn manual(tool: &Tool) -> String {
+fn manual(tool: &Tool) -> String {
     let name = tool.name;
     let version = tool.version;
     let mut page = format!(".TH {} 1 \"\" \"{name} {version}\"\n", name.to_uppercase());
@@ -171,7 +188,7 @@ fn roff(text: &str) -> String {
 }
 
 /// The completions for a shell: bash, zsh or fish.
-pub fn completions(tool: &Tool, shell: &str) -> Option<String> {
+fn completions(tool: &Tool, shell: &str) -> Option<String> {
     match shell {
         "bash" => Some(bash(tool)),
         "zsh" => Some(zsh(tool)),

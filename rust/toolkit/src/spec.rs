@@ -47,6 +47,17 @@ pub enum Takes {
     Word(&'static [&'static str]),
 }
 
+/// The command of every tool that prints its pages.
+pub const PAGES: Spec = Spec {
+    name: "pages",
+    summary: "prints the manual page or a shell's completions",
+    forms: &["man|bash|zsh|fish"],
+    text: "\
+Prints the manual page in the form that man reads, or the completions for a shell, \
+to be put where man or the shell looks for them.",
+    options: &[],
+};
+
 impl Tool {
     /// The command of that name.
     pub fn command(&self, name: &str) -> Option<&'static Spec> {

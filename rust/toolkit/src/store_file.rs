@@ -12,6 +12,10 @@ use std::process;
 use std::thread;
 use std::time::{Duration, Instant};
 
+/// How long to wait for another run that has the store; for ever where nothing
+/// is said.
+pub type Wait = Option<Duration>;
+
 /// After how long a run says what it waits for.
 const SILENT: Duration = Duration::from_secs(1);
 /// How often it looks.
@@ -94,7 +98,7 @@ impl StoreFile {
     /// the latest with the process. Its file has the store's owner and mode, and
     /// stays: if it were removed, a run that waits for it and one that makes it
     /// anew would both go on.
-    pub fn lock(&self, owner: Option<Owner>, wait: Option<Duration>) -> Result<File, Fault> {
+    pub fn lock(&self, owner: Option<Owner>, wait: Wait) -> Result<File, Fault> {
         let path = self.beside("", ".lock");
         let file = open_lock(&path, &self.temporary(), owner).map_err(Fault::at(&path))?;
         let begun = Instant::now();
@@ -125,6 +129,48 @@ impl StoreFile {
         self.status(disk)?;
         disk.read(&self.path, longest + 1)
             .map_err(Fault::at(&self.path))
+    }
+
+    /// Makes the file, where there is none. What is there already gets no lock.
+    pub fn make(&self, disk: &mut impl Disk, bytes: &[u8], wait: Wait) -> Result<(), Fault> {
+        self.check_free(disk)?;
+        let _lock = self.lock(None, wait)?;
+        self.check_free(disk)?;
+        self.replace(disk, bytes, None)
+    }
+
+    fn check_free(&self, disk: &mut impl Disk) -> Result<(), Fault> {
+        match self.status(disk)? {
+            None => Ok(()),
+            Some(_) => {
+                let what = self.what;
+                let text = format!("there is a file already, and a {what} is never made over one");
+                Err(Fault::unfit(&self.path, text))
+            }
+        }
+    }
+
+    /// Makes a call on the bytes of the file, up to one more than `longest`, and
+    /// keeps them if it is done. What `judge` refuses gets no lock. Once the file
+    /// is locked, and before anything is changed, `ready` is called.
+    pub fn change<D: Disk, T, E: From<Fault>>(
+        &self,
+        disk: &mut D,
+        longest: usize,
+        wait: Wait,
+        judge: impl FnOnce(&[u8]) -> Result<(), E>,
+        ready: impl FnOnce(&mut D) -> Result<(), Fault>,
+        call: impl FnOnce(&mut [u8]) -> Result<T, E>,
+    ) -> Result<T, E> {
+        judge(&self.read(disk, longest)?)?;
+        let owner = self.check_changeable(disk)?;
+        let _lock = self.lock(Some(owner), wait)?;
+        let owner = self.check_changeable(disk)?;
+        let mut bytes = self.read(disk, longest)?;
+        ready(disk)?;
+        let answer = call(&mut bytes)?;
+        self.replace(disk, &bytes, Some(owner))?;
+        Ok(answer)
     }
 
     /// Puts `bytes` in the place of the whole file, and keeps its owner and mode;

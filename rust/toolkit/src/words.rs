@@ -4,7 +4,7 @@
 use crate::fault::Fault;
 use crate::output::Output;
 use crate::place::Place;
-use crate::spec::{Spec, Takes, Tool};
+use crate::spec::{Spec, Takes, Tool, PAGES};
 use std::ffi::{OsStr, OsString};
 use std::os::unix::ffi::{OsStrExt, OsStringExt};
 use std::path::PathBuf;
@@ -12,12 +12,21 @@ use std::time::Duration;
 
 /// What a command line asks for.
 pub enum Line {
-    /// Help, of one command or of all.
-    Help(Option<&'static Spec>),
-    /// The version.
-    Version,
+    /// Something about the tool.
+    About(About),
     /// A command, with the words behind it.
     Command(&'static Spec, Words),
+}
+
+/// What can be asked about a tool.
+#[derive(Clone, Debug, PartialEq, Eq)]
+pub enum About {
+    /// Help, of one command or of all.
+    Help(Option<&'static str>),
+    /// The version.
+    Version,
+    /// A page for man or for a shell.
+    Page(String),
 }
 
 /// The words behind a command, taken out as they are used.
@@ -41,20 +50,26 @@ impl Line {
         };
         let rest: Vec<OsString> = arguments.collect();
         match (name, rest.first().and_then(|word| word.to_str())) {
-            ("--help" | "-h", _) | ("help", None) => return Ok(Line::Help(None)),
-            ("--version" | "-V" | "version", _) => return Ok(Line::Version),
+            ("--help" | "-h", _) | ("help", None) => return Ok(Line::About(About::Help(None))),
+            ("--version" | "-V" | "version", _) => return Ok(Line::About(About::Version)),
             ("help", Some(name)) => {
                 let spec = tool.command(name).ok_or_else(|| no_command(tool, name))?;
-                return Ok(Line::Help(Some(spec)));
+                return Ok(Line::About(About::Help(Some(spec.name))));
             }
             _ => {}
         }
         let spec = tool.command(name).ok_or_else(|| no_command(tool, name))?;
         let options = rest.iter().take_while(|word| *word != "--");
         if options.clone().any(|word| word == "-h" || word == "--help") {
-            return Ok(Line::Help(Some(spec)));
+            return Ok(Line::About(About::Help(Some(spec.name))));
         }
-        Ok(Line::Command(spec, Words::parse(tool, spec, rest)?))
+        let mut words = Words::parse(tool, spec, rest)?;
+        if spec.name != PAGES.name {
+            return Ok(Line::Command(spec, words));
+        }
+        let page = words.plain("which page is missing")?;
+        words.finish()?;
+        Ok(Line::About(About::Page(page.to_string_lossy().into())))
     }
 }
 

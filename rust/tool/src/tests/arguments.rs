@@ -6,6 +6,7 @@ use std::ffi::OsString;
 use std::time::Duration;
 use toolkit::output::Output;
 use toolkit::place::Place;
+use toolkit::words::About;
 
 fn parse(line: &str) -> Result<Command, String> {
     let words = line.split_whitespace().map(OsString::from);
@@ -152,7 +153,7 @@ fn offsets() {
 #[test]
 fn help_wherever_it_stands() {
     for line in ["--help", "-h", "help"] {
-        assert_eq!(parse(line), Ok(Command::Help(None)));
+        assert_eq!(parse(line), Ok(Command::About(About::Help(None))));
     }
     for (line, name) in [
         ("seal --help", "seal"),
@@ -160,14 +161,14 @@ fn help_wherever_it_stands() {
         ("add --kid x --frobnicate -h", "add"),
         ("help group-kid", "group-kid"),
     ] {
-        assert_eq!(parse(line), Ok(Command::Help(Some(name))));
+        assert_eq!(parse(line), Ok(Command::About(About::Help(Some(name)))));
     }
     // Behind `--` it is a store's name.
     let store = "-h".into();
     let expected = Command::List { store, json: true };
     assert_eq!(parse("list --json -- -h"), Ok(expected));
-    assert_eq!(parse("--version"), Ok(Command::Version));
-    assert_eq!(parse("-V"), Ok(Command::Version));
+    assert_eq!(parse("--version"), Ok(Command::About(About::Version)));
+    assert_eq!(parse("-V"), Ok(Command::About(About::Version)));
 }
 
 #[test]
