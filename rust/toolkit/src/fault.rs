@@ -75,7 +75,12 @@ impl fmt::Display for Fault {
         match self {
             Fault::Usage(text) | Fault::Busy(text) => f.write_str(text),
             Fault::NotHex(what) => write!(f, "{what}: not hex"),
-            Fault::Io { what, error } => write!(f, "{what}: {error}"),
+            Fault::Io { what, error } => {
+                let text = error.to_string();
+                // The system's number says no more than its words.
+                let words = text.split(" (os error ").next().unwrap_or(&text);
+                write!(f, "{what}: {words}")
+            }
             Fault::ClosedPipe => f.write_str("nobody reads the output"),
         }
     }
