@@ -4,11 +4,10 @@ use crate::console::{give, Console};
 use crate::disk::{Disk, Owner, PRIVATE, SHARED};
 use crate::fault::Fault;
 use crate::place::Place;
-use crate::store_file::{beside, check_link, folder, is_reserved, is_same};
+use crate::store_file::{beside, check_link, folder, is_reserved, is_same, temporary};
 use std::fs::{File, OpenOptions};
-use std::io::Write;
+use std::io::{self, Write};
 use std::path::{Path, PathBuf};
-use std::process;
 
 /// Where a result goes.
 #[derive(Clone, Debug, PartialEq, Eq)]
@@ -47,8 +46,11 @@ enum Plan {
     Standard,
     /// A device or a pipe.
     Special(File),
-    /// A file of another name until it is whole.
-    File(PathBuf),
+    /// A file that has another name until it is whole.
+    File {
+        path: PathBuf,
+        temporary: PathBuf,
+    },
 }
 
 /// A place for a result, which has been looked at.
@@ -145,7 +147,8 @@ impl Output {
             }
             slot.owner = Some(status.owner);
         }
-        slot.plan = Plan::File(path);
+        let temporary = temporary(&path);
+        slot.plan = Plan::File { path, temporary };
         Ok(slot)
     }
 }
@@ -155,13 +158,14 @@ impl<F> Slot<'_, F> {
     /// Whoever has to wait before calls this behind the wait: a run that is
     /// interrupted there leaves nothing.
     pub fn make_ready(&mut self, disk: &mut impl Disk<File = F>) -> Result<(), Fault> {
-        let (Plan::File(path), Place::File(named)) = (&self.plan, &self.output.place) else {
+        let (Plan::File { temporary, .. }, Place::File(named)) = (&self.plan, &self.output.place)
+        else {
             return Ok(());
         };
         if self.made.is_some() {
             return Ok(());
         }
-        let created = disk.create(&temporary(path), self.mode);
+        let created = disk.create(temporary, self.mode);
         let file = self.made.insert(created.map_err(Fault::at(named))?);
         match self.owner {
             Some(owner) => disk.give_to(file, owner).map_err(Fault::at(named)),
@@ -179,31 +183,30 @@ impl<F> Slot<'_, F> {
             (Plan::Special(file), _, Place::File(named)) => {
                 file.write_all(bytes).map_err(Fault::at(named))
             }
-            (Plan::File(path), Some(file), Place::File(named)) => {
+            (Plan::File { path, temporary }, Some(file), Place::File(named)) => {
                 disk.write(file, bytes)
                     .and_then(|()| disk.sync(file))
                     .and_then(|()| match self.output.force {
-                        true => disk.rename(&temporary(path), path),
-                        false => disk.rename_new(&temporary(path), path),
+                        true => disk.rename(temporary, path),
+                        false => disk.rename_new(temporary, path),
                     })
                     .map_err(Fault::at(named))?;
                 let folder = folder(path);
-                disk.sync_folder(folder).map_err(Fault::at(folder))
+                match disk.sync_folder(folder) {
+                    // The result is there, also where the folder cannot be read.
+                    Err(error) if error.kind() == io::ErrorKind::PermissionDenied => Ok(()),
+                    synced => synced.map_err(Fault::at(folder)),
+                }
             }
             _ => give(out, bytes),
         }
     }
 
     fn give_up(&self, disk: &mut impl Disk<File = F>) {
-        if let (Plan::File(path), Some(_)) = (&self.plan, &self.made) {
-            let _ = disk.remove(&temporary(path));
+        if let (Plan::File { temporary, .. }, Some(_)) = (&self.plan, &self.made) {
+            let _ = disk.remove(temporary);
         }
     }
-}
-
-/// The name of a result until it is whole, which is of this process alone.
-fn temporary(path: &Path) -> PathBuf {
-    beside(path, ".", &format!(".{}.new", process::id()))
 }
 
 /// Refuses a path that no result goes to, whatever is there.

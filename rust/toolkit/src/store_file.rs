@@ -3,12 +3,13 @@
 use crate::console::note;
 use crate::disk::{self, Disk, Owner, Status, PRIVATE};
 use crate::fault::Fault;
+use std::collections::hash_map::RandomState;
 use std::ffi::{OsStr, OsString};
 use std::fs::{self, File, OpenOptions, TryLockError};
+use std::hash::{BuildHasher, Hasher};
 use std::io;
 use std::os::unix::fs::OpenOptionsExt;
 use std::path::{Path, PathBuf};
-use std::process;
 use std::thread;
 use std::time::{Duration, Instant};
 
@@ -100,7 +101,7 @@ impl StoreFile {
     /// anew would both go on.
     pub fn lock(&self, owner: Option<Owner>, wait: Wait) -> Result<File, Fault> {
         let path = self.beside("", ".lock");
-        let file = open_lock(&path, &self.temporary(), owner).map_err(Fault::at(&path))?;
+        let file = open_lock(&path, &temporary(&self.path), owner).map_err(Fault::at(&path))?;
         let begun = Instant::now();
         let mut said = false;
         loop {
@@ -222,11 +223,6 @@ impl StoreFile {
     fn beside(&self, before: &str, behind: &str) -> PathBuf {
         beside(&self.path, before, behind)
     }
-
-    /// A name of this process alone.
-    fn temporary(&self) -> PathBuf {
-        self.beside(".", &format!(".{}.new", process::id()))
-    }
 }
 
 fn cannot_be(text: &str, owner: Owner, error: &io::Error) -> String {
@@ -310,6 +306,13 @@ pub fn folder(path: &Path) -> &Path {
         Some(folder) if folder != Path::new("") => folder,
         _ => Path::new("."),
     }
+}
+
+/// A name beside `path` that no other run has. A process's number would not do:
+/// runs in two containers may have the same one, and a folder in common.
+pub fn temporary(path: &Path) -> PathBuf {
+    let number = RandomState::new().build_hasher().finish();
+    beside(path, ".", &format!(".{number:016x}.new"))
 }
 
 /// A file in the same folder, named after `path`.
