@@ -86,15 +86,11 @@ impl Output {
         make: impl FnOnce(&mut D, &mut Slot<D::File>) -> Result<Vec<u8>, E>,
     ) -> Result<(), E> {
         let mut slot = self.look(disk, out, content, spared)?;
-        let written = make(disk, &mut slot).and_then(|bytes| {
-            slot.make_ready(disk)?;
-            Ok(slot.fill(disk, out, &bytes)?)
+        let written = make(disk, &mut slot).and_then(|bytes| match slot.plan {
+            Plan::Standard => Ok(give(out, &bytes)?),
+            _ => Ok(slot.put(disk, &bytes).and_then(|()| slot.settle(disk))?),
         });
-        if written.is_err() {
-            // The first failure is the one to tell.
-            slot.give_up(disk);
-        }
-        written
+        slot.keep(disk, written)
     }
 
     fn look<D: Disk>(
@@ -173,39 +169,49 @@ impl<F> Slot<'_, F> {
         }
     }
 
-    fn fill(
-        &mut self,
-        disk: &mut impl Disk<File = F>,
-        out: &mut impl Console,
-        bytes: &[u8],
-    ) -> Result<(), Fault> {
-        match (&mut self.plan, &mut self.made, &self.output.place) {
-            (Plan::Special(file), _, Place::File(named)) => {
-                file.write_all(bytes).map_err(Fault::at(named))
-            }
-            (Plan::File { path, temporary }, Some(file), Place::File(named)) => {
-                disk.write(file, bytes)
-                    .and_then(|()| disk.sync(file))
-                    .and_then(|()| match self.output.force {
-                        true => disk.rename(temporary, path),
-                        false => disk.rename_new(temporary, path),
-                    })
-                    .map_err(Fault::at(named))?;
-                let folder = folder(path);
-                match disk.sync_folder(folder) {
-                    // The result is there, also where the folder cannot be read.
-                    Err(error) if error.kind() == io::ErrorKind::PermissionDenied => Ok(()),
-                    synced => synced.map_err(Fault::at(folder)),
-                }
-            }
-            _ => give(out, bytes),
+    /// Puts bytes behind those that were put there.
+    fn put(&mut self, disk: &mut impl Disk<File = F>, bytes: &[u8]) -> Result<(), Fault> {
+        self.make_ready(disk)?;
+        let Place::File(named) = &self.output.place else {
+            return Ok(());
+        };
+        match (&mut self.plan, &mut self.made) {
+            (Plan::Special(file), _) => file.write_all(bytes),
+            (_, Some(file)) => disk.write(file, bytes),
+            _ => Ok(()),
+        }
+        .map_err(Fault::at(named))
+    }
+
+    /// Gives a file that is whole its name.
+    fn settle(&mut self, disk: &mut impl Disk<File = F>) -> Result<(), Fault> {
+        let (Plan::File { path, temporary }, Some(file), Place::File(named)) =
+            (&self.plan, &mut self.made, &self.output.place)
+        else {
+            return Ok(());
+        };
+        disk.sync(file)
+            .and_then(|()| match self.output.force {
+                true => disk.rename(temporary, path),
+                false => disk.rename_new(temporary, path),
+            })
+            .map_err(Fault::at(named))?;
+        let folder = folder(path);
+        match disk.sync_folder(folder) {
+            // The result is there, also where the folder cannot be read.
+            Err(error) if error.kind() == io::ErrorKind::PermissionDenied => Ok(()),
+            synced => synced.map_err(Fault::at(folder)),
         }
     }
 
-    fn give_up(&self, disk: &mut impl Disk<File = F>) {
-        if let (Plan::File { temporary, .. }, Some(_)) = (&self.plan, &self.made) {
+    /// Removes what was written where the result has failed, which stays the
+    /// failure to tell.
+    fn keep<E>(&self, disk: &mut impl Disk<File = F>, written: Result<(), E>) -> Result<(), E> {
+        if let (Err(_), Plan::File { temporary, .. }, Some(_)) = (&written, &self.plan, &self.made)
+        {
             let _ = disk.remove(temporary);
         }
+        written
     }
 }
 
