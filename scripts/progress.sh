@@ -19,10 +19,10 @@ needed_crates() {
         }' crates.txt
 }
 
-# About how many minutes the proofs of these crates take from nothing, by the table of crates in docs/ARCHITECTURE.md; a crate
+# About how long the proofs of these crates take from nothing, by the table of crates in docs/ARCHITECTURE.md; a crate
 # that is named twice counts twice. The times there are of up to four crates at a time, and levels wait for their longest:
 # three at a time comes near.
-expected_minutes() {
+expected_time() {
     awk -v wanted="$*" -F'|' '
         BEGIN { n = split(wanted, names, " "); for (i = 1; i <= n; i++) needed[names[i]]++ }
         /^\| `/ && $(NF - 1) ~ / s *$/ {
@@ -30,7 +30,7 @@ expected_minutes() {
             many = split($2, crates, " "); split($(NF - 1), times, " ")
             for (i = 1; i <= many; i++) seconds += needed[crates[i]] * times[i]
         }
-        END { printf "%d\n", seconds / 180 + 1 }' docs/ARCHITECTURE.md
+        END { many = int(seconds / 180 + 1); print many == 1 ? "a minute" : many " minutes" }' docs/ARCHITECTURE.md
 }
 
 # One line of progress: in place on a terminal, else a line of its own.
@@ -106,5 +106,6 @@ watch_for() {
         fi
         sleep 0.2
     done
-    rm -f "$begun"
+    # Where the script was interrupted, its own file is left.
+    rm -f "$begun" "$running"
 }
