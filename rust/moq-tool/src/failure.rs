@@ -1,0 +1,4 @@
+//! Why a run fails, and with which exit status: the statuses of the tool
+//! `sframe`.
+
+toolkit::failure!(moq::Refusal);

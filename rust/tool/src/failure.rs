@@ -1,0 +1,3 @@
+//! Why a run fails, and with which exit status.
+
+toolkit::failure!(sframe::Refusal);
