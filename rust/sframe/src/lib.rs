@@ -12,8 +12,8 @@
 //! let mut ward = Store::make(&mut ward)?;
 //! let mut doctor = Store::make(&mut doctor)?;
 //! let base_key = [7; 32]; // agreed on elsewhere
-//! ward.add(Role::Sending, Suite::Aes256GcmSha512_128, Kid(200), &base_key)?;
-//! doctor.add(Role::Receiving, Suite::Aes256GcmSha512_128, Kid(200), &base_key)?;
+//! ward.add(Role::Sending, Kid(200), Suite::Aes256GcmSha512_128, &base_key)?;
+//! doctor.add(Role::Receiving, Kid(200), Suite::Aes256GcmSha512_128, &base_key)?;
 //!
 //! let frame = ward.seal_to_vec(Kid(200), Metadata::NONE, b"a picture")?;
 //! assert_eq!(doctor.open_to_vec(&frame, Metadata::NONE)?, b"a picture");

@@ -69,7 +69,7 @@ pub fn ratchet_to_vec(suite: Suite, base_key: &[u8], steps: u64) -> Result<Vec<u
 /// let mut ward = [0; RECORD];
 /// let mut ward = Store::make(&mut ward)?;
 /// let sent = ratchet_kid(generation, 5, bits)?;
-/// ward.add(Role::Sending, suite, sent, &ratchet_to_vec(suite, &base_key, 2)?)?;
+/// ward.add(Role::Sending, sent, suite, &ratchet_to_vec(suite, &base_key, 2)?)?;
 /// let frame = ward.seal_to_vec(sent, Metadata::NONE, b"a picture")?;
 ///
 /// let mut doctor = [0; RECORD];
@@ -77,7 +77,7 @@ pub fn ratchet_to_vec(suite: Suite, base_key: &[u8], steps: u64) -> Result<Vec<u
 /// let kid = read_header(&frame)?.kid;
 /// assert_eq!(kid.0 >> bits, generation);
 /// let steps = (kid.0.wrapping_sub(known)) % (1 << bits);
-/// doctor.add(Role::Receiving, suite, kid, &ratchet_to_vec(suite, &base_key, steps)?)?;
+/// doctor.add(Role::Receiving, kid, suite, &ratchet_to_vec(suite, &base_key, steps)?)?;
 /// assert_eq!(doctor.open_to_vec(&frame, Metadata::NONE)?, b"a picture");
 /// # Ok::<(), sframe::Refusal>(())
 /// ```

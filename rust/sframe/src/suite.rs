@@ -21,7 +21,7 @@ use std::fmt;
 ///
 /// let mut bytes = [0; RECORD];
 /// let mut store = Store::make(&mut bytes)?;
-/// store.add(Role::Sending, 6, Kid(200), &[7; 16])?;
+/// store.add(Role::Sending, Kid(200), 6, &[7; 16])?;
 /// # Ok::<(), sframe::Refusal>(())
 /// ```
 #[derive(Clone, Copy, Debug, PartialEq, Eq, Hash, PartialOrd, Ord)]

@@ -42,11 +42,11 @@ impl<'a> StoreView<'a> {
     ///
     /// let mut bytes = [0; 3 * RECORD];
     /// let mut store = Store::make(&mut bytes)?;
-    /// store.add(Role::Sending, Suite::Aes128GcmSha256_128, Kid(200), &[7; 16])?;
+    /// store.add(Role::Sending, Kid(200), Suite::Aes128GcmSha256_128, &[7; 16])?;
     /// assert_eq!(store.find(Kid(200)), Ok(Place(0)));
     ///
     /// // A lower number goes before it.
-    /// store.add(Role::Receiving, Suite::Aes128GcmSha256_128, Kid(56), &[7; 16])?;
+    /// store.add(Role::Receiving, Kid(56), Suite::Aes128GcmSha256_128, &[7; 16])?;
     /// assert_eq!(store.find(Kid(200)), Ok(Place(1)));
     /// assert_eq!(store.find(Kid(7)), Err(Refusal::KidUnknown));
     /// # Ok::<(), Refusal>(())
@@ -71,8 +71,8 @@ impl<'a> StoreView<'a> {
     /// let (mut ward, mut doctor) = ([0; RECORD], [0; RECORD]);
     /// let mut ward = Store::make(&mut ward)?;
     /// let mut doctor = Store::make(&mut doctor)?;
-    /// ward.add(Role::Sending, suite, Kid(200), &[7; 16])?;
-    /// doctor.add(Role::Receiving, suite, Kid(200), &[7; 16])?;
+    /// ward.add(Role::Sending, Kid(200), suite, &[7; 16])?;
+    /// doctor.add(Role::Receiving, Kid(200), suite, &[7; 16])?;
     ///
     /// // Two frames arrive, and the one between them is lost.
     /// for lost in [false, true, false] {

@@ -18,7 +18,7 @@ fn stores(suite: Suite) -> ([u8; 2 * RECORD], [u8; 2 * RECORD]) {
     let (mut ward, mut doctor) = ([0; 2 * RECORD], [0; 2 * RECORD]);
     for (bytes, role) in [(&mut ward, Role::Sending), (&mut doctor, Role::Receiving)] {
         let mut store = Store::make(bytes).unwrap();
-        match store.add(role, suite, KID, &BASE_KEY) {
+        match store.add(role, KID, suite, &BASE_KEY) {
             Err(Refusal::SendingBarred) => put_sender(bytes, suite),
             added => added.unwrap(),
         }
@@ -118,13 +118,13 @@ fn records_of_every_state() {
     let mut store = Store::make(&mut bytes).unwrap();
     assert_eq!(store.records(), Ok(vec![]));
     store
-        .add(Role::Receiving, Suite::ALL[0], Kid(1), &BASE_KEY)
+        .add(Role::Receiving, Kid(1), Suite::ALL[0], &BASE_KEY)
         .unwrap();
     store
-        .add(Role::Sending, Suite::ALL[1], Kid(u64::MAX), &BASE_KEY)
+        .add(Role::Sending, Kid(u64::MAX), Suite::ALL[1], &BASE_KEY)
         .unwrap();
     store
-        .add(Role::Sending, Suite::ALL[4], Kid(3), &BASE_KEY)
+        .add(Role::Sending, Kid(3), Suite::ALL[4], &BASE_KEY)
         .unwrap();
     for _ in 0..3 {
         store.seal_to_vec(Kid(3), Metadata::NONE, b"").unwrap();
@@ -132,7 +132,7 @@ fn records_of_every_state() {
     store.remove(Kid(3)).unwrap();
     store.remove(Kid(1)).unwrap();
     store
-        .add(Role::Receiving, Suite::ALL[2], Kid(4), &BASE_KEY)
+        .add(Role::Receiving, Kid(4), Suite::ALL[2], &BASE_KEY)
         .unwrap();
     let seen: Vec<_> = store
         .records()
@@ -336,7 +336,7 @@ fn one_suite_is_not_added_for_sending() {
         let barred = suite == Suite::Aes128CtrHmacSha256_32;
         let answer = Store::make(&mut bytes)
             .unwrap()
-            .add(Role::Sending, suite, KID, &BASE_KEY);
+            .add(Role::Sending, KID, suite, &BASE_KEY);
         assert_eq!(answer == Err(Refusal::SendingBarred), barred, "{suite}");
     }
 
@@ -349,7 +349,7 @@ fn one_suite_is_not_added_for_sending() {
     assert_eq!(doctor.open_to_vec(&frame, Metadata::NONE), Ok(vec![]));
     ward.remove(KID).unwrap();
     assert_eq!(ward.records().unwrap()[0].state, State::Retired);
-    let again = ward.add(Role::Receiving, suite, KID, &BASE_KEY);
+    let again = ward.add(Role::Receiving, KID, suite, &BASE_KEY);
     assert_eq!(again, Err(Refusal::KidHeld));
 }
 
