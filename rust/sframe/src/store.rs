@@ -1,8 +1,11 @@
 //! The store of keys in lent bytes.
 
-use crate::limits::{frame_room, MAX_PLAINTEXT};
-use crate::{raw, EpochBits, Kid, Metadata, Place, Record, Refusal, StoreView, Suite};
-use std::fmt;
+#[cfg(feature = "alloc")]
+use crate::{frame_room, Record, MAX_PLAINTEXT};
+use crate::{raw, EpochBits, Kid, Metadata, Place, Refusal, StoreView, Suite};
+#[cfg(feature = "alloc")]
+use alloc::{vec, vec::Vec};
+use core::fmt;
 
 /// What a key is added for.
 #[derive(Clone, Copy, Debug, PartialEq, Eq, Hash)]
@@ -231,7 +234,7 @@ impl<'a> Store<'a> {
 
     /// Seals `plaintext` under the key of `kid` and its next counter, into a
     /// frame at the front of `room`, and answers the frame's length. The bytes
-    /// behind it stay as they are. [`frame_room`] bytes are always enough.
+    /// behind it stay as they are. [`frame_room`](crate::frame_room) bytes are always enough.
     ///
     /// Refusals, the first that holds: [`StoreNotSound`](Refusal::StoreNotSound),
     /// [`KidUnknown`](Refusal::KidUnknown), [`WrongRole`](Refusal::WrongRole),
@@ -327,6 +330,7 @@ impl<'a> Store<'a> {
     /// assert_eq!((frame.len(), frame[0]), (17, 0x10));
     /// # Ok::<(), sframe::Refusal>(())
     /// ```
+    #[cfg(feature = "alloc")]
     pub fn seal_to_vec(
         &mut self,
         kid: Kid,
@@ -401,6 +405,7 @@ impl<'a> Store<'a> {
     /// }
     /// # Ok::<(), Refusal>(())
     /// ```
+    #[cfg(feature = "alloc")]
     pub fn open_to_vec(&mut self, frame: &[u8], metadata: Metadata) -> Result<Vec<u8>, Refusal> {
         let mut plaintext = vec![0; frame.len().min(MAX_PLAINTEXT)];
         let length = self.open(frame, metadata, &mut plaintext)?;
@@ -431,6 +436,7 @@ impl<'a> Store<'a> {
     /// assert_eq!((records[0].kid, records[0].next), (Kid(200), Ctr(1)));
     /// # Ok::<(), sframe::Refusal>(())
     /// ```
+    #[cfg(feature = "alloc")]
     pub fn records(&self) -> Result<Vec<Record>, Refusal> {
         self.view().records()
     }

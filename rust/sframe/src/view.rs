@@ -2,7 +2,9 @@
 
 use crate::record::{self, Place, Record};
 use crate::{raw, Kid, Refusal};
-use std::fmt;
+#[cfg(feature = "alloc")]
+use alloc::vec::Vec;
+use core::fmt;
 
 /// A store lent for reading. Any number of views may be over one store at once,
 /// in several threads too.
@@ -98,12 +100,30 @@ impl<'a> StoreView<'a> {
         }
     }
 
-    /// The records in use, by rising place and key number.
+    /// The records in use, by rising place and key number, without their keys.
     ///
     /// Refuses with [`Refusal::StoreNotSound`].
-    pub fn records(self) -> Result<Vec<Record>, Refusal> {
+    ///
+    /// ```
+    /// use sframe::{Kid, Role, Store, Suite, RECORD};
+    ///
+    /// let mut bytes = [0; 4 * RECORD];
+    /// let mut store = Store::make(&mut bytes)?;
+    /// store.add(Role::Sending, Kid(200), Suite::Aes128GcmSha256_128, &[7; 16])?;
+    /// store.add(Role::Receiving, Kid(56), Suite::Aes128GcmSha256_128, &[7; 16])?;
+    /// let kids = store.view().each_record()?.map(|record| record.kid);
+    /// assert!(kids.eq([Kid(56), Kid(200)]));
+    /// # Ok::<(), sframe::Refusal>(())
+    /// ```
+    pub fn each_record(self) -> Result<impl Iterator<Item = Record> + 'a, Refusal> {
         self.check()?;
         Ok(record::decode(self.0))
+    }
+
+    /// As [`each_record`](Self::each_record), in a vector.
+    #[cfg(feature = "alloc")]
+    pub fn records(self) -> Result<Vec<Record>, Refusal> {
+        Ok(self.each_record()?.collect())
     }
 }
 

@@ -3,9 +3,9 @@
 use reference::record::{Record, State as ReferenceState};
 use reference::suites::Suite as ReferenceSuite;
 use sframe::{
-    frame_room, group_kid, group_parts, raw, Ctr, EpochBits, GroupParts, GroupWidths, Kid,
-    Metadata, Place, Refusal, Role, State, Store, StoreView, Suite, Window, MAX_COUNTER,
-    MAX_METADATA, MAX_PLAINTEXT, MAX_RECORDS, RECORD,
+    frame_room, group_kid, group_parts, raw, Ctr, EpochBits, FrameReader, GroupParts, GroupWidths,
+    Kid, Metadata, OwnedStore, Place, Refusal, Role, State, Store, StoreView, Suite, Window,
+    MAX_COUNTER, MAX_METADATA, MAX_PLAINTEXT, MAX_RECORDS, RECORD,
 };
 use testkit::group_vectors;
 
@@ -52,9 +52,11 @@ fn numbers_of_suites() {
     for (number, suite) in (1..).zip(Suite::ALL) {
         assert_eq!(suite.number(), number);
         assert_eq!(Suite::from_number(number), Some(suite));
+        assert_eq!(Suite::try_from(number), Ok(suite));
     }
     for number in [0, 6, 256 + 1, u64::MAX] {
         assert_eq!(Suite::from_number(number), None);
+        assert_eq!(Suite::try_from(number), Err(Refusal::NoSuchSuite));
     }
 }
 
@@ -325,6 +327,8 @@ fn debug_shows_no_key() {
         format!("{:?}", Store::over(&mut ward)),
         "Store of 192 bytes"
     );
+    let owned = OwnedStore::from_bytes(ward.to_vec()).unwrap();
+    assert_eq!(format!("{owned:?}"), "OwnedStore of 192 bytes");
 }
 
 /// One suite is for receiving alone. The sender that an older store holds goes on
@@ -359,4 +363,57 @@ fn a_suite_that_does_not_exist_is_refused_by_number() {
     assert_eq!(raw::make(&mut bytes), 0);
     let number = raw::add_sending(&mut bytes, 1, 6, &BASE_KEY);
     assert_eq!(Refusal::from_number(number), Some(Refusal::NoSuchSuite));
+}
+
+/// The frame reader cuts a frame where its header ends, in whatever form.
+#[test]
+fn frames_are_read_without_a_key() {
+    let (mut ward, _) = stores(Suite::ALL[3]);
+    let mut ward = Store::over(&mut ward);
+    for ctr in 0..300 {
+        let frame = ward.seal_to_vec(KID, Metadata::NONE, b"picture").unwrap();
+        let reader = FrameReader::new(&frame).unwrap();
+        assert_eq!((reader.kid(), reader.ctr()), (KID, Ctr(ctr)));
+        assert_eq!([reader.header(), reader.rest()].concat(), frame);
+        assert_eq!(reader.rest().len(), 7 + 16);
+        for cut in 0..reader.header().len() {
+            let read = FrameReader::new(&frame[..cut]);
+            assert_eq!(read, Err(Refusal::BadHeader));
+        }
+    }
+    let longer = [0x90, 0, 200, 1, 2];
+    let reader = FrameReader::new(&longer).unwrap();
+    assert_eq!((reader.kid(), reader.rest()), (KID, &longer[3..]));
+}
+
+/// An owned store has as many records as a store may have, and keeps its keys.
+#[test]
+fn owned_stores() {
+    for records in [0, MAX_RECORDS + 1, usize::MAX / RECORD + 1, usize::MAX] {
+        let made = OwnedStore::make(records);
+        assert_eq!(made.err(), Some(Refusal::StoreNotSound), "{records}");
+    }
+    for records in [1, 2, MAX_RECORDS] {
+        let mut store = OwnedStore::make(records).unwrap();
+        assert_eq!(store.as_bytes(), vec![0; records * RECORD]);
+        store
+            .lend()
+            .add(Role::Sending, KID, Suite::ALL[0], &BASE_KEY)
+            .unwrap();
+        let kept = store.as_bytes().to_vec();
+        let again = OwnedStore::from_bytes(kept).unwrap();
+        assert_eq!(again.view().records(), store.lend().records());
+    }
+    for bytes in [vec![], vec![0; RECORD - 1], vec![0xff; RECORD]] {
+        let kept = OwnedStore::from_bytes(bytes);
+        assert_eq!(kept.err(), Some(Refusal::StoreNotSound));
+    }
+}
+
+#[test]
+fn a_refusal_as_a_failure_of_input_or_output() {
+    let error = std::io::Error::from(Refusal::TagDiffers);
+    assert_eq!(error.to_string(), Refusal::TagDiffers.to_string());
+    let refusal = error.into_inner().and_then(|inner| inner.downcast().ok());
+    assert_eq!(refusal, Some(Box::new(Refusal::TagDiffers)));
 }
