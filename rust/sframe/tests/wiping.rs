@@ -66,6 +66,6 @@ fn an_owned_store_leaves_nothing() {
     assert_eq!(given_back(), (1, 0));
 
     // What is not wiped would be seen.
-    drop(vec![7; RECORDS * RECORD]);
+    drop(std::hint::black_box(vec![7u8; RECORDS * RECORD]));
     assert_eq!(given_back(), (1, RECORDS * RECORD));
 }
