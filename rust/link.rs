@@ -36,7 +36,7 @@ fn folder(library: &str, archive: &str) -> Option<PathBuf> {
     println!("cargo::rerun-if-env-changed=SFRAME_LIB_DIR");
     let folders = match env::var_os("SFRAME_LIB_DIR") {
         Some(folder) => named(Path::new(&folder)),
-        None => built().into_iter().chain(installed(library)).collect(),
+        None => built().chain(installed(library)).collect(),
     };
     for folder in &folders {
         if let Ok(archive) = folder.join(archive).canonicalize() {
@@ -49,33 +49,38 @@ fn folder(library: &str, archive: &str) -> Option<PathBuf> {
 }
 
 /// A folder that is named by the caller. A relative path is one from where cargo
-/// was called, or else from a folder above what is built or above the package.
+/// was called, or else from a folder above the package or above what is built.
 fn named(folder: &Path) -> Vec<PathBuf> {
     if folder.is_absolute() {
         return vec![folder.to_path_buf()];
     }
     println!("cargo::rerun-if-env-changed=PWD");
     let called = env::var_os("PWD").map(PathBuf::from);
-    let above = ["OUT_DIR", "CARGO_MANIFEST_DIR"].map(|name| PathBuf::from(variable(name)));
     called
-        .iter()
-        .map(PathBuf::as_path)
-        .chain(above.iter().flat_map(|path| path.ancestors()))
+        .into_iter()
+        .chain(above())
         .map(|path| path.join(folder))
         .collect()
 }
 
-/// The folder of what was built, in each folder above the package.
-fn built() -> Vec<PathBuf> {
+/// The folder of what was built, in a folder above the package or above what is
+/// built from it.
+fn built() -> impl Iterator<Item = PathBuf> {
     let folder = match &*variable("CARGO_CFG_TARGET_ARCH") {
         "aarch64" => "target/aarch64",
         _ => "target/staticlib",
     };
-    Path::new(&variable("CARGO_MANIFEST_DIR"))
-        .ancestors()
-        .skip(1)
-        .map(|above| above.join(folder))
-        .collect()
+    above().map(move |path| path.join(folder))
+}
+
+/// Every folder above the package, and above what is built from it.
+fn above() -> impl Iterator<Item = PathBuf> {
+    ["CARGO_MANIFEST_DIR", "OUT_DIR"]
+        .into_iter()
+        .flat_map(|name| {
+            let path = PathBuf::from(variable(name));
+            path.ancestors().map(Path::to_path_buf).collect::<Vec<_>>()
+        })
 }
 
 /// The folder of what is installed on this machine, for its own processor.
