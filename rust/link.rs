@@ -86,6 +86,7 @@ fn above() -> impl Iterator<Item = PathBuf> {
 /// The folder of what is installed on this machine, for its own processor.
 fn installed(library: &str) -> Option<PathBuf> {
     println!("cargo::rerun-if-env-changed=PKG_CONFIG_PATH");
+    println!("cargo::rerun-if-env-changed=PKG_CONFIG_LIBDIR");
     if variable("HOST") != variable("TARGET") {
         return None;
     }
