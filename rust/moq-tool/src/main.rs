@@ -2,34 +2,38 @@
 
 mod arguments;
 mod commands;
-#[path = "../../tool/src/disk.rs"]
-mod disk;
 mod failure;
 mod help;
-#[path = "../../tool/src/hex.rs"]
-mod hex;
-#[path = "../../tool/src/input.rs"]
-mod input;
-#[path = "../../tool/src/store_file.rs"]
-mod store_file;
 
 use arguments::Command;
-use disk::RealDisk;
+use failure::Failure;
 use std::env;
 use std::io;
 use std::process::ExitCode;
+use toolkit::console;
+use toolkit::disk::RealDisk;
+use toolkit::fault::Fault;
 
 /// The longest store.
 const MAX_STORE: usize = moq::MAX_RECORDS * moq::RECORD;
 
 fn main() -> ExitCode {
-    let run = Command::parse(env::args_os().skip(1))
-        .and_then(|command| commands::run(command, &mut RealDisk, &mut io::stdout()));
-    match run {
-        Ok(()) => ExitCode::SUCCESS,
-        Err(failure) => {
-            eprintln!("moq: {failure}");
-            ExitCode::from(failure.status())
+    console::named(help::TOOL.name);
+    console::end(run().map_err(with_help), Failure::status)
+}
+
+fn run() -> Result<(), Failure> {
+    let command = Command::parse(env::args_os().skip(1))?;
+    commands::run(command, &mut RealDisk, &mut io::stdout().lock())
+}
+
+/// A wrong command line is told with where the right ones are.
+fn with_help(failure: Failure) -> Failure {
+    match failure {
+        Failure::Fault(Fault::Usage(text)) => {
+            let hint = help::TOOL.hint(env::args_os().nth(1));
+            Failure::usage(format!("{text}; {hint}"))
         }
+        other => other,
     }
 }

@@ -1,18 +1,35 @@
 //! The command line.
 
 use crate::failure::Failure;
-use crate::input::Place;
+use crate::help::TOOL;
 use sframe::{Ctr, EpochBits, GroupParts, GroupWidths, Kid, Role};
 use std::ffi::OsString;
 use std::path::PathBuf;
+use std::time::Duration;
+use toolkit::output::Output;
+use toolkit::place::Place;
+use toolkit::words::{one_standard_input, Line, Words};
+
+/// How long to wait for another run that has the store; for ever where nothing
+/// is said.
+pub type Wait = Option<Duration>;
 
 /// What a run is asked to do.
 #[derive(Debug, PartialEq, Eq)]
 pub enum Command {
-    Help,
+    /// Shows the help of a command, or of all.
+    Help(Option<&'static str>),
+    Version,
+    Pages(String),
     Make {
         store: PathBuf,
         keys: u64,
+        wait: Wait,
+    },
+    Keygen {
+        bytes: u64,
+        hex: bool,
+        output: Output,
     },
     Add {
         store: PathBuf,
@@ -21,13 +38,16 @@ pub enum Command {
         suite: u64,
         key: Place,
         hex: bool,
+        wait: Wait,
     },
     Remove {
         store: PathBuf,
         kid: Kid,
+        wait: Wait,
     },
     List {
         store: PathBuf,
+        json: bool,
     },
     Seal {
         store: PathBuf,
@@ -35,10 +55,12 @@ pub enum Command {
         offset: u64,
         streams: Streams,
         log: Option<PathBuf>,
+        wait: Wait,
     },
     Open {
         store: PathBuf,
         streams: Streams,
+        wait: Wait,
     },
     Report {
         store: PathBuf,
@@ -58,7 +80,7 @@ pub enum Command {
         key: Place,
         hex: bool,
         steps: u64,
-        output: PathBuf,
+        output: Output,
     },
     RatchetKid {
         generation: u64,
@@ -76,6 +98,7 @@ pub enum Command {
     ChangeEpoch {
         store: PathBuf,
         epoch: EpochBits,
+        wait: Wait,
     },
 }
 
@@ -83,7 +106,7 @@ pub enum Command {
 #[derive(Debug, PartialEq, Eq)]
 pub struct Streams {
     pub input: Place,
-    pub output: Place,
+    pub output: Output,
     pub metadata: Option<Place>,
     /// Whether the frame is in hex.
     pub hex: bool,
@@ -91,53 +114,66 @@ pub struct Streams {
 
 impl Command {
     /// The command that the arguments spell, without the program's name.
-    pub fn parse(mut arguments: impl Iterator<Item = OsString>) -> Result<Command, Failure> {
-        let name = match arguments.next().map(OsString::into_string) {
-            None => return Err(Failure::usage("no command is given")),
-            Some(Ok(name)) => name,
-            Some(Err(_)) => return Err(Failure::usage("the command is no text")),
+    pub fn parse(arguments: impl Iterator<Item = OsString>) -> Result<Command, Failure> {
+        let (spec, mut words) = match Line::parse(&TOOL, arguments)? {
+            Line::Help(spec) => return Ok(Command::Help(spec.map(|spec| spec.name))),
+            Line::Version => return Ok(Command::Version),
+            Line::Command(spec, words) => (spec, words),
         };
-        let mut words = Words::parse(arguments)?;
-        if words.flag("--help") || matches!(name.as_str(), "--help" | "-h" | "help") {
-            return Ok(Command::Help);
-        }
-        let command = match name.as_str() {
+        let command = match spec.name {
+            "keygen" => Command::Keygen {
+                bytes: words.optional_number("--bytes")?.unwrap_or(32),
+                hex: words.flag("--hex"),
+                output: key_output(&mut words)?,
+            },
             "make" => Command::Make {
                 store: words.store()?,
                 keys: words.number("--keys")?,
+                wait: words.wait()?,
             },
             "add" => Command::Add {
                 store: words.store()?,
-                role: words.role()?,
+                role: role(&mut words)?,
                 kid: Kid(words.number("--kid")?),
                 suite: words.number("--suite")?,
                 key: words.required("--key")?.into(),
                 hex: words.flag("--hex"),
+                wait: words.wait()?,
             },
             "remove" => Command::Remove {
                 store: words.store()?,
                 kid: Kid(words.number("--kid")?),
+                wait: words.wait()?,
             },
             "list" => Command::List {
                 store: words.store()?,
+                json: words.flag("--json"),
             },
             "seal" => Command::Seal {
                 store: words.store()?,
                 kid: Kid(words.number("--kid")?),
-                offset: words.offset()?,
-                streams: words.streams()?,
-                log: words.log()?,
+                offset: offset(&mut words)?,
+                streams: streams(&mut words)?,
+                log: log(&mut words)?,
+                wait: words.wait()?,
             },
             "open" => Command::Open {
                 store: words.store()?,
-                streams: words.streams()?,
+                streams: streams(&mut words)?,
+                wait: words.wait()?,
             },
             "report" => Command::Report {
                 store: words.store()?,
                 kid: Kid(words.number("--kid")?),
             },
-            "header" => words.header()?,
-            "ratchet" => words.ratchet()?,
+            "header" => header(&mut words)?,
+            "ratchet" => Command::Ratchet {
+                suite: words.number("--suite")?,
+                key: words.required("--key")?.into(),
+                hex: words.flag("--hex"),
+                steps: words.number("--steps")?,
+                output: key_output(&mut words)?,
+            },
             "kid" => Command::RatchetKid {
                 generation: words.number("--generation")?,
                 step: words.number("--step")?,
@@ -149,11 +185,11 @@ impl Command {
                     index: words.number("--index")?,
                     epoch: words.number("--epoch")?,
                 },
-                widths: words.widths()?,
+                widths: widths(&mut words)?,
             },
             "group-parts" => Command::GroupParts {
                 kid: Kid(words.number("--kid")?),
-                widths: words.widths()?,
+                widths: widths(&mut words)?,
             },
             "change-epoch" => Command::ChangeEpoch {
                 store: words.store()?,
@@ -161,200 +197,76 @@ impl Command {
                     width: words.number("--epoch-width")?,
                     bits: words.number("--epoch-bits")?,
                 },
+                wait: words.wait()?,
             },
-            _ => return Err(Failure::usage(format!("there is no command {name:?}"))),
+            "pages" => {
+                let page = words.plain("which page is missing")?;
+                Command::Pages(page.to_str().unwrap_or_default().into())
+            }
+            other => unreachable!("{other} is offered and not read"),
         };
         words.finish()?;
         Ok(command)
     }
 }
 
-/// The options that take a value, and those that take none.
-const VALUES: [&str; 20] = [
-    "--keys",
-    "--kid",
-    "--suite",
-    "--key",
-    "--in",
-    "--out",
-    "--metadata",
-    "--log",
-    "--ctr",
-    "--steps",
-    "--generation",
-    "--step",
-    "--bits",
-    "--offset",
-    "--context",
-    "--index",
-    "--epoch",
-    "--index-width",
-    "--epoch-width",
-    "--epoch-bits",
-];
-const FLAGS: [&str; 4] = ["--sending", "--receiving", "--hex", "--help"];
-
-/// The words behind the command, taken out as they are used.
-struct Words {
-    plain: Vec<OsString>,
-    values: Vec<(&'static str, OsString)>,
-    flags: Vec<&'static str>,
+/// Where the result stands in what is written; 0 unless it is given.
+fn offset(words: &mut Words) -> Result<u64, Failure> {
+    Ok(words.optional_number("--offset")?.unwrap_or(0))
 }
 
-impl Words {
-    fn parse(mut arguments: impl Iterator<Item = OsString>) -> Result<Self, Failure> {
-        let mut words = Words {
-            plain: vec![],
-            values: vec![],
-            flags: vec![],
-        };
-        while let Some(word) = arguments.next() {
-            let text = word.to_str().unwrap_or_default();
-            let text = if text == "-h" { "--help" } else { text };
-            if let Some(name) = VALUES.into_iter().find(|&name| name == text) {
-                if words.values.iter().any(|&(other, _)| other == name) {
-                    return Err(Failure::usage(format!("{name} is given twice")));
-                }
-                let value = arguments
-                    .next()
-                    .ok_or_else(|| Failure::usage(format!("{name} needs a value")))?;
-                words.values.push((name, value));
-            } else if let Some(name) = FLAGS.into_iter().find(|&name| name == text) {
-                words.flags.push(name);
-            } else if text.starts_with('-') && text != "-" {
-                // What follows a `=` is not shown: it could be a key.
-                let name = text.split_inclusive('=').next().unwrap_or_default();
-                return Err(Failure::usage(format!("there is no option {name:?}")));
-            } else {
-                words.plain.push(word);
-            }
-        }
-        Ok(words)
+fn role(words: &mut Words) -> Result<Role, Failure> {
+    match words.either("--sending", "--receiving")? {
+        true => Ok(Role::Sending),
+        false => Ok(Role::Receiving),
     }
+}
 
-    fn flag(&mut self, name: &str) -> bool {
-        let before = self.flags.len();
-        self.flags.retain(|&flag| flag != name);
-        self.flags.len() < before
-    }
+fn streams(words: &mut Words) -> Result<Streams, Failure> {
+    let streams = Streams {
+        input: words.place("--in"),
+        output: words.output(),
+        metadata: words.value("--metadata").map(Place::from),
+        hex: words.flag("--hex"),
+    };
+    let metadata = streams.metadata.as_ref();
+    one_standard_input(&[("--in", Some(&streams.input)), ("--metadata", metadata)])?;
+    Ok(streams)
+}
 
-    fn value(&mut self, name: &str) -> Option<OsString> {
-        let at = self.values.iter().position(|&(other, _)| other == name)?;
-        Some(self.values.remove(at).1)
+fn log(words: &mut Words) -> Result<Option<PathBuf>, Failure> {
+    match words.value("--log").map(Place::from) {
+        None => Ok(None),
+        Some(Place::File(path)) => Ok(Some(path)),
+        Some(Place::Standard) => Err(Failure::usage(
+            "--log is read and replaced, so it must be a file",
+        )),
     }
+}
 
-    fn required(&mut self, name: &str) -> Result<OsString, Failure> {
-        self.value(name)
-            .ok_or_else(|| Failure::usage(format!("{name} is missing")))
+fn header(words: &mut Words) -> Result<Command, Failure> {
+    match words.value("--in") {
+        Some(frame) => Ok(Command::ReadHeader {
+            frame: frame.into(),
+            hex: words.flag("--hex"),
+        }),
+        None => Ok(Command::WriteHeader {
+            kid: Kid(words.number("--kid")?),
+            ctr: Ctr(words.number("--ctr")?),
+            offset: offset(words)?,
+        }),
     }
+}
 
-    /// A number of 64 bits, in decimal or in hex after 0x.
-    fn number(&mut self, name: &str) -> Result<u64, Failure> {
-        let value = self.required(name)?;
-        Self::read_number(name, &value)
-    }
+/// A key goes to standard output only where that is said.
+fn key_output(words: &mut Words) -> Result<Output, Failure> {
+    let place = words.required("--out")?.into();
+    Ok(Output::new(Some(place), false))
+}
 
-    /// Where the result stands in what is written; 0 unless it is given.
-    fn offset(&mut self) -> Result<u64, Failure> {
-        let value = self.value("--offset");
-        value.map_or(Ok(0), |value| Self::read_number("--offset", &value))
-    }
-
-    fn read_number(name: &str, value: &OsString) -> Result<u64, Failure> {
-        let text = value.to_str().unwrap_or_default();
-        let digits_only = |digits: &str| !digits.starts_with('+');
-        match text.strip_prefix("0x") {
-            Some(digits) if digits_only(digits) => u64::from_str_radix(digits, 16).ok(),
-            None if digits_only(text) => text.parse().ok(),
-            _ => None,
-        }
-        .ok_or_else(|| Failure::usage(format!("{name} {value:?}: not a number of up to 64 bits")))
-    }
-
-    fn store(&mut self) -> Result<PathBuf, Failure> {
-        match self.plain.is_empty() {
-            true => Err(Failure::usage("the store's file is missing")),
-            false => Ok(self.plain.remove(0).into()),
-        }
-    }
-
-    fn role(&mut self) -> Result<Role, Failure> {
-        match (self.flag("--sending"), self.flag("--receiving")) {
-            (true, false) => Ok(Role::Sending),
-            (false, true) => Ok(Role::Receiving),
-            _ => Err(Failure::usage("give one of --sending and --receiving")),
-        }
-    }
-
-    fn streams(&mut self) -> Result<Streams, Failure> {
-        let standard = |value: Option<OsString>| value.map_or(Place::Standard, Place::from);
-        let streams = Streams {
-            input: standard(self.value("--in")),
-            output: standard(self.value("--out")),
-            metadata: self.value("--metadata").map(Place::from),
-            hex: self.flag("--hex"),
-        };
-        if streams.input == Place::Standard && streams.metadata == Some(Place::Standard) {
-            let text = "--in and --metadata cannot both be standard input";
-            return Err(Failure::usage(text));
-        }
-        Ok(streams)
-    }
-
-    fn log(&mut self) -> Result<Option<PathBuf>, Failure> {
-        match self.value("--log").map(Place::from) {
-            None => Ok(None),
-            Some(Place::File(path)) => Ok(Some(path)),
-            Some(Place::Standard) => Err(Failure::usage("--log must be a file")),
-        }
-    }
-
-    fn header(&mut self) -> Result<Command, Failure> {
-        match self.value("--in") {
-            Some(frame) => Ok(Command::ReadHeader {
-                frame: frame.into(),
-                hex: self.flag("--hex"),
-            }),
-            None => Ok(Command::WriteHeader {
-                kid: Kid(self.number("--kid")?),
-                ctr: Ctr(self.number("--ctr")?),
-                offset: self.offset()?,
-            }),
-        }
-    }
-
-    /// The key goes to a file and never to standard output.
-    fn ratchet(&mut self) -> Result<Command, Failure> {
-        let output = match self.required("--out")?.into() {
-            Place::File(path) => path,
-            Place::Standard => return Err(Failure::usage("--out must be a file")),
-        };
-        Ok(Command::Ratchet {
-            suite: self.number("--suite")?,
-            key: self.required("--key")?.into(),
-            hex: self.flag("--hex"),
-            steps: self.number("--steps")?,
-            output,
-        })
-    }
-
-    fn widths(&mut self) -> Result<GroupWidths, Failure> {
-        Ok(GroupWidths {
-            index: self.number("--index-width")?,
-            epoch: self.number("--epoch-width")?,
-        })
-    }
-
-    /// Checks that every word was used.
-    fn finish(self) -> Result<(), Failure> {
-        let value = self.values.first().map(|&(name, _)| name);
-        if let Some(name) = value.or(self.flags.first().copied()) {
-            return Err(Failure::usage(format!("this command takes no {name}")));
-        }
-        match self.plain.first() {
-            None => Ok(()),
-            // Not shown: it could be a key.
-            Some(_) => Err(Failure::usage("there is an argument too many")),
-        }
-    }
+fn widths(words: &mut Words) -> Result<GroupWidths, Failure> {
+    Ok(GroupWidths {
+        index: words.number("--index-width")?,
+        epoch: words.number("--epoch-width")?,
+    })
 }

@@ -2,41 +2,44 @@
 
 mod arguments;
 mod commands;
-mod disk;
+mod diagnosis;
 mod failure;
+mod fingerprint;
 mod help;
-mod hex;
-mod input;
+mod listing;
 mod log_file;
-mod store_file;
 #[cfg(test)]
 mod tests;
 
 use arguments::Command;
-use disk::RealDisk;
 use failure::Failure;
 use std::env;
-use std::io::{self, Write};
+use std::io;
 use std::process::ExitCode;
+use toolkit::console;
+use toolkit::disk::RealDisk;
+use toolkit::fault::Fault;
 
 /// The longest store.
 const MAX_STORE: usize = sframe::MAX_RECORDS * sframe::RECORD;
 
 fn main() -> ExitCode {
-    match run() {
-        Ok(()) => ExitCode::SUCCESS,
-        Err(failure) => {
-            // Where nobody reads it, the status still tells.
-            let _ = writeln!(io::stderr(), "sframe: {failure}");
-            ExitCode::from(failure.status())
-        }
-    }
+    console::named(help::TOOL.name);
+    console::end(run().map_err(with_help), Failure::status)
 }
 
 fn run() -> Result<(), Failure> {
     let command = Command::parse(env::args_os().skip(1))?;
-    let mut out = io::stdout().lock();
-    commands::run(command, &mut RealDisk, &mut out)?;
-    out.flush()
-        .map_err(|error| Failure::io("standard output", error))
+    commands::run(command, &mut RealDisk, &mut io::stdout().lock())
+}
+
+/// A wrong command line is told with where the right ones are.
+fn with_help(failure: Failure) -> Failure {
+    match failure {
+        Failure::Fault(Fault::Usage(text)) => {
+            let hint = help::TOOL.hint(env::args_os().nth(1));
+            Failure::usage(format!("{text}; {hint}"))
+        }
+        other => other,
+    }
 }

@@ -1,6 +1,7 @@
 //! A publisher and a subscriber with a relay in between: a short demonstration.
 
 use moq::{KeyId, Location, Properties, Refusal, Role, Suite, Track, TrackStore, RECORD};
+use toolkit::{console, say};
 
 /// Namespace ("room"), names "video" and "audio", as the draft serializes them.
 const VIDEO: Track = Track {
@@ -18,6 +19,7 @@ const PROPERTIES: Properties = Properties(b"\x02\x07");
 const BASE_KEY: &[u8] = b"agreed on between the two ends";
 
 fn main() -> Result<(), Refusal> {
+    console::named("publish");
     let (mut publisher, mut subscriber) = ([0; 2 * RECORD], [0; 2 * RECORD]);
     let mut publisher = TrackStore::make(&mut publisher)?;
     let mut subscriber = TrackStore::make(&mut subscriber)?;
@@ -27,10 +29,10 @@ fn main() -> Result<(), Refusal> {
     ] {
         publisher.add(Role::Sending, track, suite, BASE_KEY)?;
         subscriber.add(Role::Receiving, track, suite, BASE_KEY)?;
-        println!("Track {}, Key ID 7, {suite}", show(track.name));
+        say!("Track {}, Key ID 7, {suite}", show(track.name));
     }
 
-    println!("\nThe publisher seals, the relay passes on, the subscriber opens:\n");
+    say!("\nThe publisher seals, the relay passes on, the subscriber opens:\n");
     for (track, group, object, text) in [
         (VIDEO, 1, 0, "key frame"),
         (AUDIO, 1, 0, "hello"),
@@ -41,12 +43,12 @@ fn main() -> Result<(), Refusal> {
         // The payload behind its length; there are no encrypted properties.
         let plaintext = [&[text.len() as u8], text.as_bytes()].concat();
         let sealed = publisher.seal_to_vec(track, at, PROPERTIES, &plaintext)?;
-        println!("  group {group} object {object}: {}", hex(&sealed));
+        say!("  group {group} object {object}: {}", hex(&sealed));
         let opened = subscriber.open_to_vec(track, at, PROPERTIES, &sealed)?;
-        println!("    opens to \"{}\"", opened[1..].escape_ascii());
+        say!("    opens to \"{}\"", opened[1..].escape_ascii());
     }
 
-    println!("\nWhat is refused:\n");
+    say!("\nWhat is refused:\n");
     let at = |group, object| Location { group, object };
     let seal = publisher.seal_to_vec(VIDEO, at(2, 0), PROPERTIES, b"");
     refused("a pair that was sealed", seal);
@@ -62,19 +64,19 @@ fn main() -> Result<(), Refusal> {
     let open = subscriber.open_to_vec(AUDIO, at(1, 1), Properties(b"\x02\x08"), &sealed);
     refused("an object with changed properties", open);
 
-    println!("\nThe publisher removes the track of the video:\n");
+    say!("\nThe publisher removes the track of the video:\n");
     publisher.remove(VIDEO)?;
     let seal = publisher.seal_to_vec(VIDEO, at(3, 0), PROPERTIES, b"");
     refused("sealing", seal);
     let add = publisher.add(Role::Sending, VIDEO, Suite::Aes256GcmSha512_128, BASE_KEY);
     refused("adding it again", add);
-    println!("  So no pair of it is ever sealed twice, and no nonce comes twice.");
+    say!("  So no pair of it is ever sealed twice, and no nonce comes twice.");
     Ok(())
 }
 
 fn refused<T>(call: &str, answer: Result<T, Refusal>) {
     let refusal = answer.err().expect("this is refused");
-    println!("  {call}: refused ({}), {refusal}", refusal.number());
+    say!("  {call}: refused ({}), {refusal}", refusal.number());
 }
 
 /// The namespace's only field and the track's name.

@@ -1,9 +1,11 @@
 //! Command lines.
 
 use crate::arguments::{Command, Streams};
-use crate::input::Place;
 use sframe::{Ctr, EpochBits, GroupParts, GroupWidths, Kid, Role};
 use std::ffi::OsString;
+use std::time::Duration;
+use toolkit::output::Output;
+use toolkit::place::Place;
 
 fn parse(line: &str) -> Result<Command, String> {
     let words = line.split_whitespace().map(OsString::from);
@@ -19,10 +21,12 @@ fn options_in_any_order() {
         suite: 4,
         key: Place::Standard,
         hex: true,
+        wait: Some(Duration::from_secs(3)),
     });
     for line in [
-        "add ward --sending --kid 200 --suite 4 --key - --hex",
-        "add --hex --key - --kid 0xc8 --suite 0x4 ward --sending",
+        "add ward --sending --kid 200 --suite 4 --key - --hex --wait 3",
+        "add --hex --key - --kid 0xc8 --suite 0x4 --wait 3 ward --sending",
+        "add --hex --key=- --kid=0xc8 --suite=4 --wait=3 --sending -- ward",
     ] {
         assert_eq!(parse(line), expected);
     }
@@ -35,16 +39,22 @@ fn standard_streams_unless_named() {
     };
     let expected = Streams {
         input: Place::Standard,
-        output: Place::Standard,
+        output: Output::new(None, false),
         metadata: None,
         hex: false,
     };
     assert_eq!(streams, expected);
-    let Ok(Command::Open { streams, .. }) = parse("open w --in a --out b --metadata -") else {
+    let Ok(Command::Seal { streams, .. }) = parse("seal ward --kid 1 --in - --out -") else {
+        panic!("not a seal");
+    };
+    assert_eq!(streams.output, Output::new(Some(Place::Standard), false));
+    let Ok(Command::Open { streams, .. }) = parse("open w --in a --out b --metadata - --force")
+    else {
         panic!("not an open");
     };
     assert_eq!(streams.input, Place::File("a".into()));
-    assert_eq!(streams.output, Place::File("b".into()));
+    let output = Output::new(Some(Place::File("b".into())), true);
+    assert_eq!(streams.output, output);
     assert_eq!(streams.metadata, Some(Place::Standard));
 }
 
@@ -104,6 +114,7 @@ fn groups() {
     let expected = Command::ChangeEpoch {
         store: "doctor".into(),
         epoch: EpochBits { width: 4, bits: 14 },
+        wait: None,
     };
     let line = "change-epoch doctor --epoch-width 4 --epoch-bits 14";
     assert_eq!(parse(line), Ok(expected));
@@ -140,9 +151,23 @@ fn offsets() {
 
 #[test]
 fn help_wherever_it_stands() {
-    for line in ["--help", "-h", "help", "seal --help", "add ward -h"] {
-        assert_eq!(parse(line), Ok(Command::Help));
+    for line in ["--help", "-h", "help"] {
+        assert_eq!(parse(line), Ok(Command::Help(None)));
     }
+    for (line, name) in [
+        ("seal --help", "seal"),
+        ("add ward -h", "add"),
+        ("add --kid x --frobnicate -h", "add"),
+        ("help group-kid", "group-kid"),
+    ] {
+        assert_eq!(parse(line), Ok(Command::Help(Some(name))));
+    }
+    // Behind `--` it is a store's name.
+    let store = "-h".into();
+    let expected = Command::List { store, json: true };
+    assert_eq!(parse("list --json -- -h"), Ok(expected));
+    assert_eq!(parse("--version"), Ok(Command::Version));
+    assert_eq!(parse("-V"), Ok(Command::Version));
 }
 
 #[test]
@@ -162,6 +187,13 @@ fn wrong_lines() {
         "add ward --sending --kid 1 --suite 1 --key k 00112233",
         "add ward --sending --kid 1 --suite 1 --key k --password x",
         "remove ward",
+        "list ward --json=yes",
+        "list -- --json ward",
+        "make ward --keys 4 --wait soon",
+        "keygen",
+        "keygen --out k --force",
+        "ratchet --suite 1 --key k --steps 1",
+        "help frobnicate",
         "list ward --kid 1",
         "seal ward",
         "seal ward --kid 1 --metadata -",
@@ -186,7 +218,7 @@ fn wrong_lines() {
     }
 }
 
-/// A message stays on one line, whatever it repeats.
+/// A message stays on one line, and does not repeat what may be a key.
 #[test]
 fn words_with_a_newline() {
     for words in [
@@ -196,19 +228,46 @@ fn words_with_a_newline() {
     ] {
         let failure = Command::parse(words.iter().map(OsString::from)).unwrap_err();
         let message = failure.to_string();
-        assert!(message.contains(r"a\nb"), "{message}");
         assert!(!message.contains('\n'), "{message}");
     }
 }
 
-/// A word too many could be a key, and so could a value after `=`.
+/// A word too many could be a key, and so could a value.
 #[test]
-fn a_stray_argument_is_not_repeated() {
+fn what_may_be_a_key_is_not_repeated() {
     for line in [
         "list ward 00112233445566778899aabbccddeeff",
         "add ward --key=00112233445566778899aabbccddeeff",
+        "add ward --password=00112233445566778899aabbccddeeff",
+        "add ward --sending --kid 00112233445566778899aabbccddeeff --suite 4 --key k",
+        "add ward --sending --kid 1 --suite 00112233445566778899aabbccddeeff --key k",
+        "00112233445566778899aabbccddeeff",
+        "--00112233445566778899aabbccddeeff",
+        "list -00112233445566778899aabbccddeeff",
+        "help 00112233445566778899aabbccddeeff",
     ] {
         let message = parse(line).unwrap_err();
         assert!(!message.contains("0011"), "{message}");
     }
+}
+
+/// A slip of the fingers is told what is near.
+#[test]
+fn near_names() {
+    for (line, near) in [
+        ("selo ward", "seal"),
+        ("opne ward", "open"),
+        ("lst", "list"),
+    ] {
+        let message = parse(line).unwrap_err();
+        assert!(message.contains(&format!("; {near} is one")), "{message}");
+    }
+    assert_eq!(
+        parse("frobnicate").unwrap_err(),
+        "there is no command frobnicate"
+    );
+    let message = parse("list ward --keys 1").unwrap_err();
+    assert_eq!(message, "list takes no --keys");
+    let message = parse("list ward --frobnicate").unwrap_err();
+    assert_eq!(message, "there is no option --frobnicate");
 }

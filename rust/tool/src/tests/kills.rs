@@ -5,14 +5,22 @@
 use super::memory_disk::{MemoryDisk, Unsynced};
 use crate::arguments::{Command, Streams};
 use crate::commands;
-use crate::disk::Disk;
 use crate::failure::Failure;
-use crate::input::Place;
 use sframe::{read_header, Ctr, Kid, Refusal, Role, StoreView, MAX_RECORDS, RECORD};
 use std::fs;
-use std::path::PathBuf;
+use std::path::{Path, PathBuf};
+use toolkit::disk::{Disk, RealDisk, PRIVATE};
+use toolkit::fault::Fault;
+use toolkit::output::Output;
+use toolkit::place::Place;
 
 const KID: Kid = Kid(200);
+
+/// A key that others cannot read, so that no run warns of it.
+fn write_key(path: &Path) {
+    let mut file = RealDisk.create(path, PRIVATE).unwrap();
+    RealDisk.write(&mut file, &[7; 16]).unwrap();
+}
 
 /// What can be left after a run was stopped: first that of a killed run.
 const RESTARTS: [(Unsynced, Unsynced); 4] = [
@@ -38,8 +46,10 @@ impl Setup {
     fn with(name: &str, role: Role) -> Self {
         let name = format!("sframe-kills-{}-{name}", std::process::id());
         let folder = std::env::temp_dir().join(name);
+        // An earlier process may have had the same number.
+        let _ = fs::remove_dir_all(&folder);
         fs::create_dir_all(&folder).unwrap();
-        fs::write(folder.join("key"), [7; 16]).unwrap();
+        write_key(&folder.join("key"));
         fs::write(folder.join("picture"), b"a picture").unwrap();
 
         let mut setup = Setup {
@@ -78,6 +88,7 @@ impl Setup {
         Command::Make {
             store: self.store(),
             keys: 2,
+            wait: None,
         }
     }
 
@@ -93,6 +104,7 @@ impl Setup {
             suite: 4,
             key: Place::File(self.folder.join("key")),
             hex: false,
+            wait: None,
         }
     }
 
@@ -103,12 +115,22 @@ impl Setup {
             offset: 0,
             streams: Streams {
                 input: Place::File(self.folder.join("picture")),
-                output: Place::Standard,
+                output: Output::new(None, false),
                 metadata: None,
                 hex: false,
             },
             log: None,
+            wait: None,
         }
+    }
+
+    /// Seals into a file.
+    fn seal_to(&self, path: &Path, force: bool) -> Command {
+        let mut command = self.seal();
+        if let Command::Seal { streams, .. } = &mut command {
+            streams.output = Output::new(Some(Place::File(path.into())), force);
+        }
+        command
     }
 
     fn open(&self, number: usize) -> Command {
@@ -116,10 +138,11 @@ impl Setup {
             store: self.store(),
             streams: Streams {
                 input: Place::File(self.frame(number)),
-                output: Place::Standard,
+                output: Output::new(None, false),
                 metadata: None,
                 hex: false,
             },
+            wait: None,
         }
     }
 
@@ -154,6 +177,7 @@ impl Setup {
                 offset,
                 streams,
                 log: Some(self.log()),
+                wait: None,
             },
             other => other,
         }
@@ -228,8 +252,8 @@ fn sealing_stopped_at_every_step() {
         }
         if given_out.is_some() {
             assert!(
-                step >= 9,
-                "two reads, links, remove, create, write, sync, rename, sync"
+                step >= 13,
+                "two reads behind a look, two looks at the owner, remove, create, owner, write, sync, rename, sync"
             );
             break;
         }
@@ -259,8 +283,8 @@ fn opening_stopped_at_every_step() {
         }
         if shown {
             assert!(
-                step >= 9,
-                "two reads, links, remove, create, write, sync, rename, sync"
+                step >= 13,
+                "two reads behind a look, two looks at the owner, remove, create, owner, write, sync, rename, sync"
             );
             break;
         }
@@ -278,7 +302,7 @@ fn many_stopped_openings() {
     let mut times = [0; FRAMES];
     for run in 0..1_000 {
         let number = run / 20;
-        let mut stopped = disk.stopping_at(run * 7 % 13);
+        let mut stopped = disk.stopping_at(run * 7 % 19);
         if setup.run(&mut stopped, setup.open(number)).is_ok() {
             times[number] += 1;
         }
@@ -300,7 +324,7 @@ fn many_stopped_runs_that_log() {
     let mut disk = setup.disk.clone();
     let mut given_out = vec![];
     for run in 0..500 {
-        let mut stopped = disk.stopping_at(run * 7 % 23);
+        let mut stopped = disk.stopping_at(run * 7 % 37);
         if let Ok(frame) = setup.run(&mut stopped, setup.seal_logged()) {
             given_out.push(read_header(&frame).unwrap().ctr.0);
         }
@@ -319,7 +343,7 @@ fn a_log_that_is_full_or_cut() {
     let setup = Setup::new("full");
     for length in [65_536, 65_552, 8, 17] {
         let mut disk = setup.disk.clone();
-        let mut file = disk.create(&setup.log()).unwrap();
+        let mut file = disk.create(&setup.log(), PRIVATE).unwrap();
         disk.write(&mut file, &vec![0; length]).unwrap();
         assert!(setup.run(&mut disk, setup.seal_logged()).is_err());
         assert_eq!(setup.next(&disk), 0);
@@ -348,7 +372,7 @@ fn many_stopped_runs() {
     let mut disk = setup.disk.clone();
     let mut counters = vec![];
     for run in 0..2_000 {
-        let mut stopped = disk.stopping_at(run * 7 % 13);
+        let mut stopped = disk.stopping_at(run * 7 % 19);
         counters.extend(setup.counter(&mut stopped));
         let (names, contents) = RESTARTS[run / 3 % 4];
         disk = stopped.restarted(names, contents);
@@ -366,6 +390,7 @@ fn adding_and_removing_stopped_at_every_step() {
     let remove = || Command::Remove {
         store: setup.store(),
         kid: KID,
+        wait: None,
     };
     let commands: [&dyn Fn() -> Command; 2] = [&add, &remove];
     for command in commands {
@@ -401,7 +426,7 @@ fn adding_and_removing_stopped_at_every_step() {
 #[test]
 fn making_stopped_at_every_step() {
     let setup = Setup::new("making");
-    for step in 0..12 {
+    for step in 0..14 {
         let mut disk = MemoryDisk::default().stopping_at(step);
         let made = setup.run(&mut disk, setup.make()).is_ok();
         for (names, contents) in RESTARTS {
@@ -415,4 +440,84 @@ fn making_stopped_at_every_step() {
             assert_eq!(setup.counter(&mut disk), Some(0));
         }
     }
+}
+
+/// A result in a file is whole or not there, whenever the run is stopped; and
+/// what is given out there has a counter that does not come again.
+#[test]
+fn results_stopped_at_every_step() {
+    let setup = Setup::new("result");
+    let frame = setup.folder.join("frame");
+    let mut whole = 0;
+    for step in 0.. {
+        let mut disk = setup.disk.stopping_at(step);
+        let done = setup.run(&mut disk, setup.seal_to(&frame, false)).is_ok();
+        for (names, contents) in RESTARTS {
+            let mut disk = disk.restarted(names, contents);
+            match disk.read(&frame, 1_000) {
+                Ok(bytes) => {
+                    assert_eq!(bytes.len(), 2 + 9 + 16, "stopped at {step}");
+                    assert!(setup.next(&disk) > read_header(&bytes).unwrap().ctr.0);
+                    whole += 1;
+                }
+                Err(_) => assert!(!done, "stopped at {step}"),
+            }
+        }
+        if done {
+            break;
+        }
+    }
+    assert!(whole > 4);
+}
+
+/// A step that fails leaves the earlier file, and nothing beside it.
+#[test]
+fn a_result_that_fails_keeps_the_earlier_file() {
+    let setup = Setup::new("earlier");
+    let frame = setup.folder.join("frame");
+    let mut disk = setup.disk.clone();
+    let mut file = disk.create(&frame, 0o644).unwrap();
+    disk.write(&mut file, b"before").unwrap();
+    for step in 0.. {
+        let mut disk = disk.failing_at(step);
+        let done = setup.run(&mut disk, setup.seal_to(&frame, true)).is_ok();
+        let mut names = disk.names();
+        names.sort();
+        assert_eq!(names, [frame.clone(), setup.store()], "failed at {step}");
+        let bytes = disk.clone().read(&frame, 1_000).unwrap();
+        if done {
+            assert_eq!(bytes.len(), 2 + 9 + 16);
+            break;
+        }
+        let replaced = bytes.len() == 2 + 9 + 16;
+        assert!(bytes == b"before" || replaced, "failed at {step}");
+    }
+}
+
+/// A file that is there, or a place that cannot be had, costs no counter.
+#[test]
+fn a_result_with_no_place_uses_no_counter() {
+    let setup = Setup::new("no-place");
+    let frame = setup.folder.join("frame");
+    let mut disk = setup.disk.clone();
+    disk.create(&frame, 0o644).unwrap();
+    let refused = setup.run(&mut disk, setup.seal_to(&frame, false));
+    assert!(matches!(refused, Err(Failure::Fault(Fault::Io { .. }))));
+    let refused = setup.run(&mut disk, setup.seal_to(&setup.store(), true));
+    assert!(refused.is_err());
+    assert_eq!(setup.next(&disk), 0);
+}
+
+/// A store whose owner cannot be kept is not changed.
+#[test]
+fn the_store_of_another() {
+    let setup = Setup::new("another");
+    let mut disk = setup.disk.clone();
+    disk.give_away(&setup.store());
+    let refused = setup.run(&mut disk, setup.seal()).unwrap_err().to_string();
+    assert!(
+        refused.contains("could not stay with user 1001"),
+        "{refused}"
+    );
+    assert_eq!((setup.next(&disk), disk.names().len()), (0, 1));
 }

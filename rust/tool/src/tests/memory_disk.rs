@@ -1,10 +1,10 @@
 //! A disk in memory that can be stopped at any step, and that forgets at a
 //! power cut what was not synced.
 
-use crate::disk::Disk;
 use std::collections::HashMap;
 use std::io;
 use std::path::{Path, PathBuf};
+use toolkit::disk::{Disk, Owner, Status};
 
 /// What a power cut leaves of what was not synced.
 #[derive(Clone, Copy, Debug)]
@@ -13,11 +13,15 @@ pub enum Unsynced {
     Lost,
 }
 
+/// Who runs the tests.
+const USER: u32 = 1000;
+
 /// A file's bytes, as a running system sees them and as last synced.
-#[derive(Clone, Default)]
+#[derive(Clone)]
 struct Content {
     written: Vec<u8>,
     synced: Vec<u8>,
+    owner: Owner,
 }
 
 #[derive(Clone, Default)]
@@ -50,6 +54,12 @@ impl MemoryDisk {
         }
     }
 
+    /// Gives a file to another user.
+    pub fn give_away(&mut self, path: &Path) {
+        let file = self.find(path).unwrap();
+        self.files[file].owner.user = USER + 1;
+    }
+
     /// The names of the files.
     pub fn names(&self) -> Vec<&Path> {
         self.names.keys().map(PathBuf::as_path).collect()
@@ -70,6 +80,7 @@ impl MemoryDisk {
             Content {
                 written: bytes.clone(),
                 synced: bytes,
+                owner: content.owner,
             }
         });
         MemoryDisk {
@@ -104,9 +115,17 @@ impl MemoryDisk {
 impl Disk for MemoryDisk {
     type File = usize;
 
-    fn exists(&mut self, path: &Path) -> io::Result<bool> {
+    fn status(&mut self, path: &Path) -> io::Result<Option<Status>> {
         self.step()?;
-        Ok(self.names.contains_key(path))
+        let Ok(file) = self.find(path) else {
+            return Ok(None);
+        };
+        let links = self.names.values().filter(|&&other| other == file).count();
+        Ok(Some(Status {
+            regular: true,
+            links: links as u64,
+            owner: self.files[file].owner,
+        }))
     }
 
     fn read(&mut self, path: &Path, most: usize) -> io::Result<Vec<u8>> {
@@ -115,26 +134,38 @@ impl Disk for MemoryDisk {
         Ok(bytes[..bytes.len().min(most)].to_vec())
     }
 
-    fn links(&mut self, path: &Path) -> io::Result<u64> {
-        self.step()?;
-        let file = self.find(path)?;
-        Ok(self.names.values().filter(|&&other| other == file).count() as u64)
-    }
-
     fn remove(&mut self, path: &Path) -> io::Result<()> {
         self.step()?;
         self.names.remove(path);
         Ok(())
     }
 
-    fn create(&mut self, path: &Path) -> io::Result<usize> {
+    fn create(&mut self, path: &Path, mode: u32) -> io::Result<usize> {
         self.step()?;
         if self.names.contains_key(path) {
             return Err(io::ErrorKind::AlreadyExists.into());
         }
-        self.files.push(Content::default());
+        self.files.push(Content {
+            written: vec![],
+            synced: vec![],
+            owner: Owner {
+                user: USER,
+                group: USER,
+                mode,
+            },
+        });
         self.names.insert(path.into(), self.files.len() - 1);
         Ok(self.files.len() - 1)
+    }
+
+    /// A file is given to nobody else.
+    fn give_to(&mut self, &mut file: &mut usize, owner: Owner) -> io::Result<()> {
+        self.step()?;
+        if (owner.user, owner.group) != (USER, USER) {
+            return Err(io::ErrorKind::PermissionDenied.into());
+        }
+        self.files[file].owner = owner;
+        Ok(())
     }
 
     /// Where it is stopped, half of the bytes are written.
@@ -161,6 +192,13 @@ impl Disk for MemoryDisk {
         self.names.remove(from);
         self.names.insert(to.into(), file);
         Ok(())
+    }
+
+    fn rename_new(&mut self, from: &Path, to: &Path) -> io::Result<()> {
+        match self.names.contains_key(to) {
+            true => Err(io::ErrorKind::AlreadyExists.into()),
+            false => self.rename(from, to),
+        }
     }
 
     fn sync_folder(&mut self, folder: &Path) -> io::Result<()> {

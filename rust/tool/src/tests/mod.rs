@@ -1,7 +1,9 @@
-//! Tests of the tool's parts; `sframe/tests` runs the tool as a whole.
+//! Tests of the parts, and of what a whole run cannot show.
 
 mod arguments;
+mod diagnosis;
 mod kills;
 mod memory_disk;
-#[cfg(unix)]
+mod offers;
 mod real_disk;
+mod terminal;

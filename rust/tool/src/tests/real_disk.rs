@@ -1,8 +1,8 @@
 //! The machine's own disk, where a whole run cannot show it.
 
-use crate::disk::{Disk, RealDisk};
 use std::fs;
 use std::io::ErrorKind;
+use toolkit::disk::{Disk, RealDisk, PRIVATE};
 
 /// Nothing that comes to stand there after the removal is written to.
 #[test]
@@ -15,7 +15,7 @@ fn only_a_new_file_is_made() {
     fs::write(&file, b"before").unwrap();
     std::os::unix::fs::symlink(&nowhere, &link).unwrap();
     for path in [&file, &link] {
-        let error = RealDisk.create(path).unwrap_err();
+        let error = RealDisk.create(path, PRIVATE).unwrap_err();
         assert_eq!(error.kind(), ErrorKind::AlreadyExists);
     }
     assert_eq!(fs::read(&file).unwrap(), b"before");
@@ -23,7 +23,7 @@ fn only_a_new_file_is_made() {
 
     for path in [&file, &link, &nowhere] {
         RealDisk.remove(path).unwrap();
-        RealDisk.create(path).unwrap();
+        RealDisk.create(path, PRIVATE).unwrap();
     }
     fs::remove_dir_all(&folder).unwrap();
 }

@@ -4,6 +4,7 @@ use reference::record::{Record, State};
 use reference::suites::Suite;
 use std::fs;
 use std::io::Write;
+use std::os::unix::fs::PermissionsExt;
 use std::path::{Path, PathBuf};
 use std::process::{self, Command, Output, Stdio};
 use std::thread;
@@ -51,8 +52,20 @@ impl Folder {
         self.0.join(file)
     }
 
+    /// Writes a file that only its owner can read, as a key's should be.
     pub fn write(&self, file: &str, bytes: &[u8]) {
         fs::write(self.path(file), bytes).expect("a file of the test");
+        self.set_mode(file, 0o600);
+    }
+
+    pub fn set_mode(&self, file: &str, mode: u32) {
+        let mode = PermissionsExt::from_mode(mode);
+        fs::set_permissions(self.path(file), mode).expect("a file of the test");
+    }
+
+    pub fn mode(&self, file: &str) -> u32 {
+        let metadata = fs::metadata(self.path(file)).expect("a file of the test");
+        metadata.permissions().mode() & 0o777
     }
 
     pub fn read(&self, file: &str) -> Vec<u8> {
@@ -100,6 +113,15 @@ impl Folder {
     #[track_caller]
     pub fn done(&self, line: &str) -> Vec<u8> {
         done(line, self.run(line))
+    }
+
+    /// Likewise, after the file is removed that `--out` names.
+    #[track_caller]
+    pub fn anew(&self, line: &str) -> Vec<u8> {
+        let mut words = line.split_whitespace();
+        words.find(|&word| word == "--out").expect("a file");
+        let _ = fs::remove_file(self.path(words.next().expect("a file")));
+        self.done(line)
     }
 
     /// Checks that a run fails with `status` and one line about it, which it

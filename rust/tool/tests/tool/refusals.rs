@@ -3,6 +3,16 @@
 use super::folder::{done, fails, Folder};
 use sframe::Refusal;
 
+/// The refusals that are told in more words than their own.
+const EXPLAINED: [Refusal; 6] = [
+    Refusal::StoreNotSound,
+    Refusal::KidHeld,
+    Refusal::StoreFull,
+    Refusal::KidUnknown,
+    Refusal::WrongRole,
+    Refusal::TooLong,
+];
+
 /// Checks that a run is refused and that no file has changed.
 #[track_caller]
 fn refused(folder: &Folder, line: &str, refusal: Refusal) {
@@ -13,7 +23,11 @@ fn refused(folder: &Folder, line: &str, refusal: Refusal) {
         .collect();
     let message = folder.fails(line, refusal.number() as i32);
     let number = refusal.number();
-    assert_eq!(message, format!("sframe: refused ({number}): {refusal}\n"));
+    let start = format!("sframe: refused ({number}): ");
+    assert!(message.starts_with(&start), "{message}");
+    if !EXPLAINED.contains(&refusal) {
+        assert_eq!(message, format!("{start}{refusal}\n"));
+    }
     let after: Vec<_> = folder
         .files()
         .iter()
@@ -25,7 +39,7 @@ fn refused(folder: &Folder, line: &str, refusal: Refusal) {
 fn folder(name: &str) -> Folder {
     let folder = Folder::with_stores(name, 4);
     folder.write("picture", b"a picture");
-    folder.done("seal ward --kid 200 --in picture --out frame");
+    folder.anew("seal ward --kid 200 --in picture --out frame");
     folder
 }
 
@@ -46,8 +60,6 @@ fn store_not_sound() {
     moved.rotate_right(96);
     folder.write("moved", &moved);
     for store in ["damaged", "long", "empty", "old", "moved"] {
-        // Makes the lock's file, which stays.
-        folder.run(&format!("remove {store} --kid 200"));
         for line in [
             format!("list {store}"),
             format!("remove {store} --kid 200"),
@@ -60,6 +72,78 @@ fn store_not_sound() {
             refused(&folder, &line, Refusal::StoreNotSound);
         }
     }
+    for (store, why) in [
+        (
+            "damaged",
+            "record 1 has used its last counter by byte 2, and its counter is another",
+        ),
+        ("long", "the file has more bytes than 1024 records of 96"),
+        ("empty", "the file is empty"),
+        (
+            "old",
+            "record 1 has 0 in byte 3: a store of an earlier version",
+        ),
+        ("moved", "record 2 stands behind an empty one"),
+    ] {
+        let message = folder.fails(&format!("list {store}"), 1);
+        let expected = format!("sframe: refused (1): the store is not sound: {why}\n");
+        assert_eq!(message, expected);
+    }
+}
+
+/// What is said beyond the refusal's own words.
+#[test]
+fn refusals_explained() {
+    let folder = folder("explained");
+    folder.write("more", &[0; 32_769]);
+    folder.write("metadata", &[0; 1_025]);
+    let told = |line: &str, status: i32, text: &str| {
+        let message = folder.fails(line, status);
+        assert_eq!(message, format!("sframe: refused ({status}): {text}\n"));
+    };
+    told(
+        "seal ward --kid 200 --in more",
+        9,
+        "the plaintext has more than 32,768 bytes",
+    );
+    let line = "seal ward --kid 200 --in picture --metadata metadata";
+    told(line, 9, "the metadata has more than 1,024 bytes");
+    let line = "open doctor --in frame --metadata metadata";
+    told(line, 9, "the metadata has more than 1,024 bytes");
+    folder.write("much", &[&[0x80, 200][..], &[0; 33_000]].concat());
+    told(
+        "open doctor --in much",
+        9,
+        "the plaintext has more than 32,768 bytes",
+    );
+
+    told(
+        "remove ward --kid 201",
+        6,
+        "the store does not have key number 201",
+    );
+    let role = "which does not allow the call";
+    let line = "seal doctor --kid 200 --in picture";
+    told(line, 7, &format!("key number 200 is receiving, {role}"));
+    told(
+        "open ward --in frame",
+        7,
+        &format!("key number 200 is sending, {role}"),
+    );
+    let add = |kid: u64| format!("add ward --sending --kid {kid} --suite 4 --key key");
+    told(
+        &add(200),
+        4,
+        "the store has key number 200 already, which is sending",
+    );
+    folder.done(&add(1));
+    told(&add(2), 5, "all 2 records are in use");
+    folder.done("remove ward --kid 200");
+    told(
+        &add(200),
+        4,
+        "the store has key number 200 already, which is retired",
+    );
 }
 
 /// It is the number of keys that is wrong, not a store.
@@ -147,7 +231,7 @@ fn the_last_counter() {
     let mut store = folder.read("ward");
     store[12..20].copy_from_slice(&u64::MAX.to_be_bytes());
     folder.write("ward", &store);
-    folder.done("seal ward --kid 200 --in picture --out frame");
+    folder.anew("seal ward --kid 200 --in picture --out frame");
     assert_eq!(folder.done("open doctor --in frame"), b"a picture");
     refused(
         &folder,
@@ -165,7 +249,7 @@ fn too_long() {
     folder.write("more", &[0; 32_769]);
     folder.write("much", &[0; 1_000_000]);
     folder.write("metadata", &[0; 1_025]);
-    folder.done("seal ward --kid 200 --in most --out long");
+    folder.anew("seal ward --kid 200 --in most --out long");
     assert_eq!(folder.done("open doctor --in long"), [0; 32_768]);
     for line in [
         "seal ward --kid 200 --in more",
@@ -185,7 +269,7 @@ fn too_long() {
 fn too_long_in_hex() {
     let folder = folder("refused-hex");
     folder.write("most", &[0; 32_768]);
-    folder.done("seal ward --kid 200 --in most --hex --out frame");
+    folder.anew("seal ward --kid 200 --in most --hex --out frame");
     let frame = String::from_utf8(folder.read("frame")).unwrap();
     let spaced: String = frame
         .chars()
@@ -262,7 +346,7 @@ fn frames_that_come_again() {
     let mut store = folder.read("ward");
     store[12..20].copy_from_slice(&64u64.to_be_bytes());
     folder.write("ward", &store);
-    folder.done("seal ward --kid 200 --in picture --out later");
+    folder.anew("seal ward --kid 200 --in picture --out later");
     assert_eq!(folder.done("open doctor --in later"), b"a picture");
     for frame in ["frame", "forged"] {
         let open = format!("open doctor --in {frame} --out opened");
@@ -317,7 +401,6 @@ fn groups() {
         (0, 1, Refusal::GroupPartTooLarge),
         (4, 16, Refusal::GroupPartTooLarge),
     ] {
-        // Makes the lock's file, which stays.
         folder.done("change-epoch doctor --epoch-width 1 --epoch-bits 1");
         let line = format!("change-epoch doctor --epoch-width {width} --epoch-bits {bits}");
         refused(&folder, &line, refusal);

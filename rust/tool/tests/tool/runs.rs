@@ -9,11 +9,11 @@ fn every_suite_seals_and_opens() {
         folder.write("picture", b"a picture");
         folder.write("about", b"ward 3");
         for counter in 0..3 {
-            folder.done("seal ward --kid 200 --in picture --out frame --metadata about");
+            folder.anew("seal ward --kid 200 --in picture --out frame --metadata about");
             let header = folder.done("header --in frame");
             let expected = format!("key number 200, counter {counter}, header of 2 bytes\n");
             assert_eq!(header, expected.as_bytes());
-            folder.done("open doctor --in frame --out opened --metadata about");
+            folder.anew("open doctor --in frame --out opened --metadata about");
             assert_eq!(folder.read("opened"), b"a picture");
         }
     }
@@ -51,7 +51,7 @@ fn results_at_an_offset() {
     assert_eq!(widest.len(), 65_536 + 2 + 9 + 16);
 
     for offset in [0, 1, 17] {
-        folder.done(&(seal(&offset.to_string()) + " --out packet"));
+        folder.anew(&(seal(&offset.to_string()) + " --out packet"));
         let packet = folder.read("packet");
         let (front, frame) = packet.split_at(offset);
         assert_eq!(front, vec![0; offset]);
@@ -73,7 +73,7 @@ fn a_log_of_sealings() {
     folder.write("picture", b"a picture");
     let pairs = [(200, 0), (200, 1), (7, 0), (200, 2)];
     for (place, (kid, _)) in pairs.into_iter().enumerate() {
-        folder.done(&format!(
+        folder.anew(&format!(
             "seal ward --kid {kid} --in picture --out frame --offset {place} --log log"
         ));
     }
@@ -105,7 +105,7 @@ fn nothing_is_logged() {
         folder.write("same", b"");
         failed(&format!("seal ward --kid 200 --in picture {line}"), 64);
     }
-    folder.done("seal ward --kid 200 --in picture --out frame --log log");
+    folder.anew("seal ward --kid 200 --in picture --out frame --log log");
     assert_eq!(folder.read("log")[8..], [0; 8]);
 }
 
@@ -116,7 +116,7 @@ fn ways_to_give_a_key() {
     let text = "07 ".repeat(31) + "07\n";
     folder.write("text", text.as_bytes());
     folder.write("picture", b"a picture");
-    folder.done("seal ward --kid 200 --in picture --out frame");
+    folder.anew("seal ward --kid 200 --in picture --out frame");
     for (place, key) in [("first", "--key text --hex"), ("second", "--key - --hex")] {
         folder.done(&format!("make {place} --keys 1"));
         let add = format!("add {place} --receiving --kid 200 --suite 5 {key}");
@@ -148,7 +148,7 @@ fn a_key_as_an_argument() {
 fn list_shows_everything_but_keys() {
     let folder = Folder::with_stores("list", 4);
     folder.write("nothing", b"");
-    folder.done("seal ward --kid 200 --in nothing --out frame");
+    folder.anew("seal ward --kid 200 --in nothing --out frame");
     folder.done("add ward --sending --kid 0xffffffffffffffff --suite 1 --key key");
     folder.done("remove ward --kid 0xffffffffffffffff");
     let list = String::from_utf8(folder.done("list ward")).unwrap();
@@ -157,20 +157,21 @@ fn list_shows_everything_but_keys() {
         .map(|line| line.split_whitespace().collect())
         .collect();
     let suite = ["4", "AES_128_GCM_SHA256_128"].join(" ");
-    assert_eq!(rows[1].join(" "), format!("sending {suite} 200 1 - -"));
-    let retired = "retired 1 AES_128_CTR_HMAC_SHA256_80 18446744073709551615 0 - -";
+    let shown = &rows[1][..rows[1].len() - 1];
+    assert_eq!(shown.join(" "), format!("sending {suite} 200 1 - -"));
+    let retired = "retired 1 AES_128_CTR_HMAC_SHA256_80 18446744073709551615 0 - - -";
     assert_eq!(rows[2].join(" "), retired);
     assert_eq!(rows[3].join(" "), "2 of 2 records in use");
 
     // A receiving key: nothing opened, then the second and the third frame.
     let row = || {
         let list = String::from_utf8(folder.done("list doctor")).unwrap();
-        let row = list.lines().nth(1).unwrap().split_whitespace();
-        row.collect::<Vec<_>>().join(" ")
+        let row: Vec<&str> = list.lines().nth(1).unwrap().split_whitespace().collect();
+        row[..row.len() - 1].join(" ")
     };
     assert_eq!(row(), format!("receiving {suite} 200 - - -"));
     for _ in 0..2 {
-        folder.done("seal ward --kid 200 --in nothing --out frame");
+        folder.anew("seal ward --kid 200 --in nothing --out frame");
         folder.done("open doctor --in frame");
     }
     let window = "0000000000000003";
@@ -246,31 +247,6 @@ fn a_change_of_epoch() {
 }
 
 #[test]
-fn help_names_every_command() {
-    let folder = Folder::new("help");
-    let help = String::from_utf8(folder.done("--help")).unwrap();
-    for command in [
-        "make",
-        "add",
-        "remove",
-        "list",
-        "seal",
-        "open",
-        "report",
-        "header",
-        "ratchet",
-        "kid",
-        "group-kid",
-        "group-parts",
-        "change-epoch",
-    ] {
-        assert!(help.contains(&format!("sframe {command} ")), "{command}");
-    }
-    assert!(help.lines().all(|line| line.len() <= 80));
-    assert_eq!(folder.done("seal --help"), help.as_bytes());
-}
-
-#[test]
 fn wrong_command_lines() {
     let folder = Folder::with_stores("usage", 4);
     for line in [
@@ -336,21 +312,24 @@ fn files_that_fail() {
 fn make_replaces_no_file() {
     let folder = Folder::with_stores("make", 4);
     let before = folder.read("ward");
-    folder.fails("make ward --keys 2", 74);
+    let message = folder.fails("make ward --keys 2", 74);
+    assert!(
+        message.contains("a store is never made over one"),
+        "{message}"
+    );
     assert_eq!(folder.read("ward"), before);
 }
 
-#[cfg(unix)]
 #[test]
 fn a_store_is_its_owners_alone() {
-    use std::os::unix::fs::PermissionsExt;
     let folder = Folder::with_stores("mode", 4);
-    let metadata = std::fs::metadata(folder.path("ward")).unwrap();
-    assert_eq!(metadata.permissions().mode() & 0o777, 0o600);
+    assert_eq!(
+        (folder.mode("ward"), folder.mode("ward.lock")),
+        (0o600, 0o600)
+    );
 }
 
 /// Whatever stands where the new store is written first, no key goes there.
-#[cfg(unix)]
 #[test]
 fn a_file_in_the_way() {
     use std::os::unix::fs::{symlink, PermissionsExt};
@@ -367,22 +346,21 @@ fn a_file_in_the_way() {
     // Who has it open already sees nothing of the store.
     let other = folder.path("other");
     std::fs::hard_link(folder.path(".ward.new"), &other).unwrap();
-    folder.done("seal ward --kid 200 --in key --out frame");
+    folder.anew("seal ward --kid 200 --in key --out frame");
     assert_eq!((mode("ward"), folder.read("other")), (0o600, vec![]));
 
     symlink("other", folder.path(".ward.new")).unwrap();
-    folder.done("seal ward --kid 200 --in key --out frame");
+    folder.anew("seal ward --kid 200 --in key --out frame");
     assert_eq!((mode("ward"), folder.read("other")), (0o600, vec![]));
     let header = folder.done("header --in frame");
     assert!(header.starts_with(b"key number 200, counter 1,"));
 }
 
 /// Each of two hard links would get a store and counters of its own.
-#[cfg(unix)]
 #[test]
 fn a_store_with_hard_links() {
     let folder = Folder::with_stores("hard-link", 4);
-    folder.done("seal ward --kid 200 --in key --out frame");
+    folder.anew("seal ward --kid 200 --in key --out frame");
     for (store, other) in [("ward", "b"), ("doctor", "c")] {
         std::fs::hard_link(folder.path(store), folder.path(other)).unwrap();
     }
@@ -412,20 +390,19 @@ fn a_store_with_hard_links() {
     assert_eq!(folder.read("doctor"), before);
 
     std::fs::remove_file(folder.path("b")).unwrap();
-    folder.done("seal ward --kid 200 --in key --out frame");
+    folder.anew("seal ward --kid 200 --in key --out frame");
     let header = folder.done("header --in frame");
     assert!(header.starts_with(b"key number 200, counter 1,"));
 }
 
 /// A store and a symbolic link to it are locked and replaced as one.
-#[cfg(unix)]
 #[test]
 fn a_link_stays_a_link() {
     let folder = Folder::with_stores("link", 4);
     std::os::unix::fs::symlink("ward", folder.path("link")).unwrap();
     folder.write("picture", b"a picture");
-    folder.done("seal link --kid 200 --in picture --out frame");
-    folder.done("seal ward --kid 200 --in picture --out frame");
+    folder.anew("seal link --kid 200 --in picture --out frame");
+    folder.anew("seal ward --kid 200 --in picture --out frame");
     let header = folder.done("header --in frame");
     assert!(header.starts_with(b"key number 200, counter 1,"));
     assert!(folder.path("link").is_symlink());
@@ -452,7 +429,7 @@ fn ratchet_and_key_numbers() {
         "add doctor --receiving --kid {kid} --suite 5 --key received --hex"
     ));
     folder.write("picture", b"a picture");
-    folder.done(&format!("seal ward --kid {kid} --in picture --out frame"));
+    folder.anew(&format!("seal ward --kid {kid} --in picture --out frame"));
     assert_eq!(folder.done("open doctor --in frame"), b"a picture");
 
     folder.done("ratchet --suite 5 --key first --steps 0 --out same");
@@ -465,17 +442,14 @@ fn where_a_walked_key_goes() {
     let folder = Folder::new("ratchet-file");
     folder.write("first", &[7; 16]);
     folder.done("ratchet --suite 1 --key first --steps 1 --out next");
-    #[cfg(unix)]
-    {
-        use std::os::unix::fs::PermissionsExt;
-        let mode = folder.path("next").metadata().unwrap().permissions().mode();
-        assert_eq!(mode & 0o777, 0o600);
-    }
+    assert_eq!(folder.mode("next"), 0o600);
     let before = folder.read("next");
     assert_eq!(before.len(), 32);
     folder.fails("ratchet --suite 1 --key first --steps 2 --out next", 74);
     folder.fails("ratchet --suite 1 --key first --steps 1 --out first", 74);
-    folder.fails("ratchet --suite 1 --key first --steps 1 --out -", 64);
+    // Standard output is asked for, and is no terminal.
+    let walked = folder.done("ratchet --suite 1 --key first --steps 1 --out -");
+    assert_eq!(walked, before);
     folder.fails("ratchet --suite 1 --key first --steps 1", 64);
     folder.fails("kid --generation 1 --step 1", 64);
     assert_eq!(folder.read("next"), before);

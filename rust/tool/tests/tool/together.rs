@@ -1,7 +1,7 @@
 //! Several runs at once, and runs that are killed: every frame that was given
 //! out has a counter of its own, and no picture is given out twice.
 
-use super::folder::Folder;
+use super::folder::{done, Folder};
 use sframe::{read_header, Metadata, Refusal, Store, StoreView};
 use std::collections::BTreeSet;
 use std::thread;
@@ -15,6 +15,16 @@ fn counter(doctor: &[u8], frame: &[u8]) -> u64 {
     read_header(frame).expect("a header").ctr.0
 }
 
+/// A frame. A run that waits for the others for long says so.
+fn sealed(folder: &Folder) -> Vec<u8> {
+    let line = "seal ward --kid 200 --in picture";
+    let mut output = folder.run(line);
+    if output.stderr.starts_with(b"sframe: waiting for") {
+        output.stderr.clear();
+    }
+    done(line, output)
+}
+
 #[test]
 fn many_at_once() {
     const THREADS: usize = 8;
@@ -26,7 +36,7 @@ fn many_at_once() {
         let threads: Vec<_> = (0..THREADS)
             .map(|_| {
                 scope.spawn(|| {
-                    let seal = |_| folder.done("seal ward --kid 200 --in picture");
+                    let seal = |_| sealed(&folder);
                     (0..RUNS).map(seal).collect::<Vec<_>>()
                 })
             })
@@ -141,7 +151,7 @@ fn openings_killed_at_any_time() {
     const RUNS: u32 = 60;
     let folder = Folder::with_stores("opening-killed", 4);
     folder.write("picture", b"a picture");
-    folder.done("seal ward --kid 200 --in picture --out 0");
+    folder.anew("seal ward --kid 200 --in picture --out 0");
     let start = Instant::now();
     assert!(given_out(&folder, 0));
     let mut longest = 2 * start.elapsed();
@@ -149,7 +159,7 @@ fn openings_killed_at_any_time() {
     let (mut shown, mut killed) = (0, 0);
     for _sweep in 0..6 {
         for run in 0..RUNS {
-            folder.done("seal ward --kid 200 --in picture --out 0");
+            folder.anew("seal ward --kid 200 --in picture --out 0");
             let mut child = folder
                 .command("open doctor --in 0")
                 .spawn()

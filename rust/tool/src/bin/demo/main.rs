@@ -7,6 +7,7 @@ mod removal;
 mod round;
 
 use sframe::{Kid, Refusal};
+use toolkit::console;
 
 /// The key number of the round. In a signed byte it would be -56.
 const KID: Kid = Kid(200);
@@ -15,6 +16,7 @@ const KID: Kid = Kid(200);
 const BASE_KEY: &[u8] = b"a base key of thirty-two bytes..";
 
 fn main() -> Result<(), Refusal> {
+    console::named("demo");
     round::show()?;
     refusals::show()?;
     removal::show()

@@ -5,6 +5,7 @@ use sframe::{
     group_kid, ratchet, ratchet_kid, raw, EpochBits, GroupParts, GroupWidths, Kid, Metadata,
     Refusal, Role, Store, Suite, MAX_COUNTER, MAX_PLAINTEXT, RECORD, WINDOW,
 };
+use toolkit::say;
 
 const SUITE: Suite = Suite::Aes128GcmSha256_128;
 const SHORT_TAGS: Suite = Suite::Aes128CtrHmacSha256_32;
@@ -14,7 +15,7 @@ const SPENT_AT: usize = 2;
 const COUNTER_AT: usize = 12;
 
 pub fn show() -> Result<(), Refusal> {
-    println!("\nEach refusal once. None of them changes a byte of store or room:\n");
+    say!("\nEach refusal once. None of them changes a byte of store or room:\n");
     let (mut ward, mut doctor) = ([0; RECORD], [0; RECORD]);
     let mut store = Store::make(&mut ward)?;
     store.add(Role::Sending, KID, SUITE, BASE_KEY)?;
@@ -33,7 +34,7 @@ pub fn show() -> Result<(), Refusal> {
 }
 
 fn print(refusal: Refusal, what: &str) {
-    println!("{:>4}  {refusal}\n        {what}", refusal.number());
+    say!("{:>4}  {refusal}\n        {what}", refusal.number());
 }
 
 fn of_stores(ward: &mut [u8], doctor: &mut [u8]) {

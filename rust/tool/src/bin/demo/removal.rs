@@ -2,6 +2,7 @@
 
 use crate::{refusal, BASE_KEY, KID};
 use sframe::{Metadata, Refusal, Role, Store, Suite, RECORD};
+use toolkit::say;
 
 const SUITE: Suite = Suite::Aes128GcmSha256_128;
 
@@ -14,11 +15,11 @@ pub fn show() -> Result<(), Refusal> {
     let frame = ward.seal_to_vec(KID, Metadata::NONE, b"a picture")?;
     doctor.open_to_vec(&frame, Metadata::NONE)?;
 
-    println!("\nKey number 200 is removed at the ward, where it was sending:\n");
+    say!("\nKey number 200 is removed at the ward, where it was sending:\n");
     ward.remove(KID)?;
     for record in ward.records()? {
         let (kid, next) = (record.kid.0, record.next.0);
-        println!(
+        say!(
             "  key number {kid} is {}, next counter {next}",
             record.state
         );
@@ -27,19 +28,19 @@ pub fn show() -> Result<(), Refusal> {
     print("sealing", refusal(answer));
     let answer = ward.add(Role::Sending, KID, SUITE, BASE_KEY);
     print("adding it again", refusal(answer));
-    println!("  So its counters never start again, and no nonce comes twice.");
+    say!("  So its counters never start again, and no nonce comes twice.");
 
-    println!("\nIt is removed at the doctor's, where it was receiving:\n");
+    say!("\nIt is removed at the doctor's, where it was receiving:\n");
     doctor.remove(KID)?;
     let answer = doctor.open_to_vec(&frame, Metadata::NONE);
     print("opening", refusal(answer));
     doctor.add(Role::Receiving, KID, SUITE, BASE_KEY)?;
     let opened = doctor.open_to_vec(&frame, Metadata::NONE)?;
-    println!("  added again, it opens \"{}\"", opened.escape_ascii());
-    println!("  So it has forgotten what it opened: a number returns with a new base key alone.");
+    say!("  added again, it opens \"{}\"", opened.escape_ascii());
+    say!("  So it has forgotten what it opened: a number returns with a new base key alone.");
     Ok(())
 }
 
 fn print(call: &str, refusal: Refusal) {
-    println!("  {call}: refused ({}), {refusal}", refusal.number());
+    say!("  {call}: refused ({}), {refusal}", refusal.number());
 }

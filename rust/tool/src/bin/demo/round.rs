@@ -2,6 +2,7 @@
 
 use crate::{hex, BASE_KEY, KID};
 use sframe::{read_header, Metadata, Refusal, Role, Store, Suite, RECORD};
+use toolkit::say;
 
 /// Bound to each frame, and sent by other means.
 const METADATA: Metadata = Metadata(b"ward 3, camera 2");
@@ -12,9 +13,9 @@ const PICTURES: [&[u8]; 3] = [b"bed 1: asleep", b"bed 2: reading a letter", b""]
 const SENDING: u8 = 1;
 
 pub fn show() -> Result<(), Refusal> {
-    println!("The ward seals pictures under key number 200, the doctor opens them.");
+    say!("The ward seals pictures under key number 200, the doctor opens them.");
     for suite in Suite::ALL {
-        println!("\nSuite {}, {suite}:", suite.number());
+        say!("\nSuite {}, {suite}:", suite.number());
         let (mut ward, mut doctor) = ([0; RECORD], [0; RECORD]);
         let mut ward = sender(&mut ward, suite)?;
         let mut doctor = Store::make(&mut doctor)?;
@@ -25,7 +26,7 @@ pub fn show() -> Result<(), Refusal> {
             let header = read_header(&frame)?;
             let (start, rest) = frame.split_at(header.length);
             let (ciphertext, tag) = rest.split_at(rest.len() - suite.nt());
-            println!(
+            say!(
                 "  counter {}  header {}  ciphertext {:<46}  tag {}",
                 header.ctr.0,
                 hex(start),
@@ -34,7 +35,7 @@ pub fn show() -> Result<(), Refusal> {
             );
             let opened = doctor.open_to_vec(&frame, METADATA)?;
             assert_eq!(opened, picture);
-            println!("             opened: \"{}\"", opened.escape_ascii());
+            say!("             opened: \"{}\"", opened.escape_ascii());
         }
     }
     Ok(())
@@ -47,7 +48,7 @@ fn sender(bytes: &mut [u8], suite: Suite) -> Result<Store<'_>, Refusal> {
     let added = Store::make(bytes)?.add(Role::Sending, KID, suite, BASE_KEY);
     if let Err(refusal) = added {
         assert_eq!(refusal, Refusal::SendingBarred);
-        println!(
+        say!(
             "  not added any more ({}); a stored sender goes on:",
             refusal.number()
         );
