@@ -320,6 +320,9 @@ uint32_t sframe_write_header_at(uint64_t kid, uint64_t ctr, uint8_t *out, size_t
 /*
  * Reads the header at the front of the bytes, whatever follows it. A number may stand in more bytes than it needs.
  *
+ * Given a frame, it tells whose it is without a key, say to a server on the way: its key number, its counter, and by
+ * the length where ciphertext and tag begin. Nothing of it is authenticated; only sframe_open does that.
+ *
  * SFRAME_DONE: *kid, *ctr and *length are the header's two numbers and its length.
  * SFRAME_HEADER_INVALID: the bytes end before the header does; *kid, *ctr and *length are 0.
  */
