@@ -45,3 +45,8 @@ pub mod number {
     pub const GROUP_PART_TOO_LARGE: u32 = 22;
     pub const GROUP_KID_TOO_LONG: u32 = 23;
 }
+
+// The examples of the guide are run.
+#[cfg(doctest)]
+#[doc = include_str!("../../../docs/INTEGRATION.md")]
+struct Guide;
