@@ -27,3 +27,12 @@ secrets:
 
 arm64:
 	@scripts/arm64
+
+# `make guide` compiles and runs the code in C of the documents, `make video` takes a video over a bad line, with ffmpeg.
+.PHONY: guide video
+
+guide:
+	@scripts/guide
+
+video:
+	@scripts/video

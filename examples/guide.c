@@ -407,9 +407,11 @@ static void lossy(void)
 
 static void acts(void)
 {
+    for (uint32_t answer = 0; answer <= SFRAME_GROUP_KID_TOO_LONG; answer++)
+        expect((act_on(answer) == STOP) == (answer == SFRAME_STORE_NOT_SOUND), "one answer calls for a stop");
     expect(act_on(SFRAME_DONE) == SHOW && act_on(SFRAME_KID_UNKNOWN) == HOLD && act_on(SFRAME_ALREADY_OPENED) == DROP
                && act_on(SFRAME_TOO_OLD) == DROP && act_on(SFRAME_TAG_DIFFERS) == COUNT
-               && act_on(SFRAME_STORE_NOT_SOUND) == STOP,
+               && act_on(SFRAME_TOO_LONG) == COUNT,
            "what to do");
 }
 
