@@ -14,6 +14,15 @@ test:
 lint:
 	@scripts/lint
 
+# `make guide` compiles and runs the code in C of the documents, `make video` takes a video over a bad line, with ffmpeg.
+.PHONY: guide video
+
+guide:
+	@scripts/guide
+
+video:
+	@scripts/video
+
 pins:
 	@scripts/promises --write
 	@scripts/floors --write
@@ -27,12 +36,3 @@ secrets:
 
 arm64:
 	@scripts/arm64
-
-# `make guide` compiles and runs the code in C of the documents, `make video` takes a video over a bad line, with ffmpeg.
-.PHONY: guide video
-
-guide:
-	@scripts/guide
-
-video:
-	@scripts/video

@@ -20,6 +20,11 @@ pub use stores::{
     Key, ANY_KEY, COUNTER_AT, LAYOUT_AT, RECEIVE_ONLY, SPENT_AT, WINDOW_AT,
 };
 
+// The examples of the guide are run.
+#[cfg(doctest)]
+#[doc = include_str!("../../../docs/INTEGRATION.md")]
+struct Guide;
+
 /// The numbers of the refusals.
 pub mod number {
     #![allow(missing_docs)]
@@ -45,8 +50,3 @@ pub mod number {
     pub const GROUP_PART_TOO_LARGE: u32 = 22;
     pub const GROUP_KID_TOO_LONG: u32 = 23;
 }
-
-// The examples of the guide are run.
-#[cfg(doctest)]
-#[doc = include_str!("../../../docs/INTEGRATION.md")]
-struct Guide;
