@@ -11,13 +11,17 @@
 #include <stdio.h>
 #include <stdlib.h>
 #include <sys/wait.h>
+#include <ucontext.h>
 
 #include "act.h"
 #include "cut.h"
+#include "epoch.h"
+#include "follow.h"
 #include "keep.h"
 #include "shared.h"
 #include "slots.h"
 #include "step.h"
+#include "wipe.h"
 
 static const uint64_t KID = 200, SUITE = SFRAME_AES_128_GCM_SHA256_128;
 static const uint8_t BASE_KEY[] = "thirty-two bytes, for the trial.";
@@ -415,29 +419,120 @@ static void acts(void)
            "what to do");
 }
 
-/* Steps until the numbers of the generation are used up; a receiver that has the first base key follows each. */
+/* Steps until the numbers of the generation are used up; a receiver that has the first base key follows each, and a forged
+ * frame leaves its store as it was. */
 static void steps(void)
 {
     struct stepping sender = { .generation = 12, .suite = SUITE, .base_key_len = sizeof BASE_KEY - 1 };
-    uint8_t store[SFRAME_STORE_SIZE(1 << STEP_BITS)], receiver[SFRAME_STORE_SIZE(1)];
-    uint8_t frame[SFRAME_FRAME_ROOM(5)], opened[5], key[SFRAME_MAX_BASE_KEY];
-    size_t n, m, key_len;
-    unsigned many = 0;
+    struct followed known = { .generation = 12, .suite = SUITE, .base_key_len = sizeof BASE_KEY - 1 };
+    uint8_t store[SFRAME_STORE_SIZE(1 << STEP_BITS)], receiver[SFRAME_STORE_SIZE(1)], before[sizeof receiver];
+    uint8_t frame[SFRAME_FRAME_ROOM(5)], opened[5];
+    size_t n, m;
+    int many = 0;
 
     memcpy(sender.base_key, BASE_KEY, sender.base_key_len);
+    memcpy(known.base_key, BASE_KEY, known.base_key_len);
     expect(sframe_ratchet_kid(sender.generation, 0, STEP_BITS, &sender.kid) == SFRAME_DONE, "key number");
     make_with(store, sizeof store, sender.kid, 1);
-    for (uint32_t answer = SFRAME_DONE; answer == SFRAME_DONE; answer = step_on(&sender, store, sizeof store), many++) {
+    for (uint32_t answer = SFRAME_DONE; answer == SFRAME_DONE; many++) {
+        const uint64_t old = sender.kid;
+
         expect(sframe_seal(store, sizeof store, sender.kid, NULL, 0, BASE_KEY, 5, frame, sizeof frame, &n) == SFRAME_DONE, "seal");
-        expect(sframe_ratchet(SUITE, BASE_KEY, sizeof BASE_KEY - 1, many, key, sizeof key, &key_len) == SFRAME_DONE, "walk");
-        expect(sframe_make(receiver, sizeof receiver) == SFRAME_DONE
-                   && sframe_add_receiving(receiver, sizeof receiver, sender.kid, SUITE, key, key_len) == SFRAME_DONE
-                   && sframe_open(receiver, sizeof receiver, frame, n, NULL, 0, opened, sizeof opened, &m) == SFRAME_DONE
-                   && m == 5 && memcmp(opened, BASE_KEY, 5) == 0,
+        expect(sframe_make(receiver, sizeof receiver) == SFRAME_DONE, "make");
+        memcpy(before, receiver, sizeof before);
+        frame[n - 1] ^= 1;
+        expect(follow(&known, STEP_BITS, receiver, sizeof receiver, frame, n, opened, sizeof opened, &m) == SFRAME_TAG_DIFFERS
+                   && m == 0 && memcmp(receiver, before, sizeof before) == 0,
+               "a forged frame leaves no key behind");
+        frame[n - 1] ^= 1;
+        known.generation++;
+        expect(follow(&known, STEP_BITS, receiver, sizeof receiver, frame, n, opened, sizeof opened, &m) == SFRAME_KID_UNKNOWN, "another generation");
+        known.generation--;
+        expect(follow(&known, STEP_BITS, receiver, sizeof receiver, frame, n, opened, sizeof opened, &m) == SFRAME_DONE && m == 5
+                   && memcmp(opened, BASE_KEY, 5) == 0,
                "the receiver follows");
+        expect(sframe_open(receiver, sizeof receiver, frame, n, NULL, 0, opened, sizeof opened, &m) == SFRAME_ALREADY_OPENED, "and has the key");
+        answer = step_on(&sender, store, sizeof store);
+        expect(sframe_seal(store, sizeof store, old, NULL, 0, BASE_KEY, 5, frame, sizeof frame, &n)
+                   == (answer == SFRAME_DONE ? SFRAME_WRONG_ROLE : SFRAME_DONE),
+               "the old key is retired, unless the step was refused");
     }
     expect(many == 1 << STEP_BITS, "as many steps as there are numbers");
     expect(sframe_seal(store, sizeof store, sender.kid, NULL, 0, BASE_KEY, 5, frame, sizeof frame, &n) == SFRAME_DONE, "the last key is in force");
+}
+
+/* A group of three through forty epochs: whatever one seals the others open; a frame of an epoch that has ended is not opened. */
+static void epochs(void)
+{
+    enum { MEMBERS = 3, EPOCHS = 40 };
+    static uint8_t stores[MEMBERS][SFRAME_STORE_SIZE(EPOCHS * MEMBERS)];
+    uint8_t frame[SFRAME_FRAME_ROOM(5)], last[sizeof frame], opened[5], base_key[32];
+    uint64_t kid[MEMBERS], context, index, low;
+    size_t n, m, last_len = 0;
+
+    for (int i = 0; i < MEMBERS; i++)
+        expect(sframe_make(stores[i], sizeof stores[i]) == SFRAME_DONE, "make");
+    for (uint64_t epoch = 0; epoch < EPOCHS; epoch++) {
+        memset(base_key, (int)epoch + 1, sizeof base_key);
+        for (uint64_t own = 0; own < MEMBERS; own++)
+            expect(epoch_begin(stores[own], sizeof stores[own], SUITE, epoch, MEMBERS, own, base_key, sizeof base_key, &kid[own]) == SFRAME_DONE, "an epoch begins");
+        for (uint64_t own = 0; own < MEMBERS; own++) {
+            expect(sframe_seal(stores[own], sizeof stores[own], kid[own], NULL, 0, BASE_KEY, 5, frame, sizeof frame, &n) == SFRAME_DONE, "seal");
+            expect(sframe_group_parts(kid[own], INDEX_WIDTH, EPOCH_WIDTH, &context, &index, &low) == SFRAME_DONE && index == own
+                       && (context << EPOCH_WIDTH | low) == epoch,
+                   "the key number tells the sender and the epoch");
+            for (uint64_t other = 0; other < MEMBERS; other++)
+                expect(sframe_open(stores[other], sizeof stores[other], frame, n, NULL, 0, opened, sizeof opened, &m)
+                           == (other == own ? SFRAME_WRONG_ROLE : SFRAME_DONE),
+                       "the others open it");
+        }
+        if (epoch > 0) {
+            expect(epoch_end(stores[0], sizeof stores[0], epoch - 1, 0) == SFRAME_DONE, "an epoch ends");
+            expect(sframe_open(stores[0], sizeof stores[0], last, last_len, NULL, 0, opened, sizeof opened, &m) == SFRAME_KID_UNKNOWN, "its keys are gone");
+        }
+        expect(sframe_seal(stores[1], sizeof stores[1], kid[1], NULL, 0, BASE_KEY, 5, last, sizeof last, &last_len) == SFRAME_DONE, "seal");
+    }
+}
+
+/* ---- the stack: what is left of a sealing, with and without wiping */
+
+enum { DEPTH = 1 << 16, OWN = 512 };
+static uint8_t depth[DEPTH], sealing[SFRAME_STORE_SIZE(1)], sealed[SFRAME_FRAME_ROOM(1200)];
+static ucontext_t back, there;
+static int wipes;
+
+__attribute__((noinline)) static void seal_and_wipe(void)
+{
+    size_t n;
+
+    expect(sframe_seal(sealing, sizeof sealing, KID, NULL, 0, picture, 1200, sealed, sizeof sealed, &n) == SFRAME_DONE, "seal");
+    if (wipes)
+        wipe_stack();
+}
+
+/* How many bytes on its stack are other than zero afterwards; its own frames are at the top. */
+static size_t left_on_stack(int wiping)
+{
+    size_t many = 0;
+
+    wipes = wiping;
+    memset(depth, 0, sizeof depth);
+    expect(getcontext(&there) == 0, "a context");
+    there.uc_stack.ss_sp = depth;
+    there.uc_stack.ss_size = sizeof depth;
+    there.uc_link = &back;
+    makecontext(&there, seal_and_wipe, 0);
+    expect(swapcontext(&back, &there) == 0, "a stack of its own");
+    for (size_t i = 0; i < sizeof depth - OWN; i++)
+        many += depth[i] != 0;
+    return many;
+}
+
+static void stacks(void)
+{
+    make_with(sealing, sizeof sealing, KID, 1);
+    expect(left_on_stack(0) > 1000, "a sealing leaves much on the stack");
+    expect(left_on_stack(1) == 0, "nothing of it is left below");
 }
 
 enum { THREADS = 4, EACH = 5000 };
@@ -485,6 +580,8 @@ int main(int count, char **words)
     lossy();
     acts();
     steps();
+    epochs();
+    stacks();
     threads();
     return EXIT_SUCCESS;
 }
