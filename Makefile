@@ -3,7 +3,9 @@
 # the C example and a short comparison under valgrind, `make secrets` tests there that no address and no branch depends on a
 # secret; both need the static library that demo or test builds. `make arm64` builds the library for 64-bit Arm and compares
 # that under qemu.
-.PHONY: demo test lint pins memcheck secrets arm64
+# `make libraries` builds the archives for C, and `make tools` the programs; `make install` and `make uninstall` put both below
+# PREFIX and take them away, `make dist` and `make deb` pack them. `make packages` tries all of that.
+.PHONY: demo test lint pins memcheck secrets arm64 libraries tools dist deb packages
 
 demo:
 	@scripts/demo
@@ -36,3 +38,21 @@ secrets:
 
 arm64:
 	@scripts/arm64
+
+libraries:
+	rt staticlib sframe_c
+	rt staticlib moq_c
+
+tools:
+	cargo build --offline --locked --release --manifest-path rust/Cargo.toml -p sframe-tool -p moq-tool
+
+dist:
+	@scripts/dist
+
+deb:
+	@scripts/deb
+
+packages:
+	@scripts/packages
+
+include packaging/install.mk
