@@ -1,3 +1,4 @@
+# SPDX-License-Identifier: MIT
 # `make demo` shows the main job, `make test` is the whole gate, `make lint` its quick part with no proof. `make pins` writes
 # the pinned files anew: promises, floors, and from the last run's logs the facts of the must-fail edits. `make memcheck` runs
 # the C example and a short comparison under valgrind, `make secrets` tests there that no address and no branch depends on a

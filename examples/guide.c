@@ -1,3 +1,4 @@
+/* SPDX-License-Identifier: MIT */
 /*
  * Tries the code of docs/INTEGRATION.md, which scripts/guide writes to files: the store in a file with processes that are
  * killed, the store in flash with power that is cut at every byte, pictures in pieces with packets that are lost, changed,

@@ -1,3 +1,4 @@
+/* SPDX-License-Identifier: MIT */
 /*
  * A video over a bad line: takes the pictures of a file as ffmpeg's libraries read them, seals each in pieces, hands the
  * packets to a line that loses, repeats, reorders and damages them, opens what arrives, and writes the pictures that can be

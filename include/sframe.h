@@ -1,3 +1,4 @@
+/* SPDX-License-Identifier: MIT */
 /*
  * SFrame (RFC 9605): the sealing layer's C interface.
  *

@@ -1,3 +1,4 @@
+# SPDX-License-Identifier: MIT
 # What the scripts share. Sourced at the root of the repository.
 
 # Says which of the commands that are given is missing, if one is.

@@ -1,3 +1,4 @@
+// SPDX-License-Identifier: MIT
 //! Other libraries that a terminal maker could pick, where they are installed.
 //!
 //! Each is measured twice, in a program of its own: held to plain instructions,

@@ -1,3 +1,4 @@
+// SPDX-License-Identifier: MIT
 //! The sealing layer beside the reference: each function here makes one call
 //! on both and compares all that the call answers and leaves.
 
