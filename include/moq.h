@@ -1,3 +1,4 @@
+/* SPDX-License-Identifier: MIT */
 /*
  * Secure objects over MoQ (draft-ietf-moq-secure-objects): the sealing layer's second C interface.
  *

@@ -1,3 +1,4 @@
+// SPDX-License-Identifier: MIT
 //! Secure objects over MoQ (draft-ietf-moq-secure-objects): the safe wrapper over
 //! the sealing layer's second static library.
 //!

@@ -1,3 +1,4 @@
+// SPDX-License-Identifier: MIT
 //! The numbers of `include/moq.h` are the wrapper's, and where a cause is
 //! SFrame's too, those of `include/sframe.h`.
 

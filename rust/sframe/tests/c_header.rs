@@ -1,3 +1,4 @@
+// SPDX-License-Identifier: MIT
 //! The numbers of `include/sframe.h` are the wrapper's.
 
 use sframe::*;

@@ -1,3 +1,4 @@
+// SPDX-License-Identifier: MIT
 //! What the tests share: hex, the tables of published vectors, a seeded
 //! generator of inputs, combinations of choices, and checks on lent rooms.
 

@@ -1,3 +1,4 @@
+/* SPDX-License-Identifier: MIT */
 /*
  * Adds, seals and opens under every suite with secrets marked as undefined, so that valgrind tells of each address and
  * each branch that depends on one. scripts/secrets builds and runs it, and judges what valgrind says.
