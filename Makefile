@@ -1,5 +1,6 @@
+# SPDX-License-Identifier: MIT
 # `make` builds, `make help` says what else there is.
-.PHONY: all help libraries tools demo test lint pins memcheck secrets arm64 clean
+.PHONY: all help libraries tools demo test lint pins memcheck secrets guide video arm64 dist deb packages clean
 
 all: libraries tools
 	@echo "Libraries: target/staticlib/libsframe_c.a and libmoq_c.a, with include/. Tools: sframe and moq in rust/target/release."
@@ -15,7 +16,13 @@ help:
 	@echo "make pins       writes promises.txt, floors.txt and edits.txt anew"
 	@echo "make memcheck   the C example and a part of the comparisons under valgrind"
 	@echo "make secrets    tests that no address and no branch depends on a secret"
+	@echo "make guide      compiles and runs the C code of the documents"
+	@echo "make video      takes a video over a bad line, with ffmpeg"
 	@echo "make arm64      the libraries for 64-bit Arm, compared under qemu"
+	@echo "make install    what is built, below PREFIX (/usr/local); make uninstall takes it away"
+	@echo "make dist       a release that links without the toolchain: target/dist"
+	@echo "make deb        Debian packages of it, linted: target/deb"
+	@echo "make packages   tries all of these outside the repository"
 	@echo "make clean      removes what was built: target and rust/target; the proofs too"
 	@echo "It needs rt (the Rattle toolchain of the file TOOLCHAIN), cargo, a C compiler and bash; test also python3 and rustfmt."
 
@@ -34,6 +41,12 @@ test:
 lint:
 	@scripts/lint
 
+guide:
+	@scripts/guide
+
+video:
+	@scripts/video
+
 pins:
 	@scripts/promises --write
 	@scripts/floors --write
@@ -48,6 +61,17 @@ secrets:
 arm64:
 	@scripts/arm64
 
+dist:
+	@scripts/dist
+
+deb:
+	@scripts/deb
+
+packages:
+	@scripts/packages
+
 clean:
 	@echo "removing target and rust/target"
 	@rm -rf target rust/target
+
+include packaging/install.mk

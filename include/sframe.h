@@ -1,5 +1,24 @@
+/* SPDX-License-Identifier: MIT */
 /*
  * SFrame (RFC 9605): the sealing layer's C interface.
+ *
+ * A terminal seals every picture of a call before it leaves and opens every picture that arrives; a media server in between
+ * can neither see nor change them. Before you use it:
+ *   - processors: x86-64 and 64-bit Arm, little-endian, with a size_t of 64 bits; others are refused below;
+ *   - a frame has at most 32,768 bytes of plaintext. A longer picture has to be cut: docs/INTEGRATION.md has the code;
+ *   - one caller at a time for each store, and a store is neither copied nor set back: two pictures would go out under one
+ *     nonce. docs/INTEGRATION.md says how to keep one over a reboot;
+ *   - a frame opens once in a store, and not at all when it is 64 or more counters behind;
+ *   - take suite 4 or 5, whose tags have 16 bytes. Suite 3 is for receiving from older senders alone;
+ *   - no address and no branch depends on key or plaintext, but for sframe_open's verdict on the tag. This is tested on the
+ *     archive and not proved, and says nothing of time. A store holds its keys in clear, and values made of a key stay on
+ *     the stack after a call;
+ *   - left to others: how keys reach the terminals, RTP, files, random numbers (none are used here), and telling a forger
+ *     from a faulty line.
+ *
+ * Four words: bytes are lent to a call by a pointer and a length, for as long as the call lasts; a room is bytes that are lent
+ * for a result, and may be longer than it; a store is sound when its bytes obey docs/STORE.md; a refusal is an answer other
+ * than 0.
  *
  * Link libsframe_c.a, which target/staticlib has for x86-64 and target/aarch64 for 64-bit Arm. The
  * proofs are of the code, not of either archive's machine code; README says what was tested of each.
@@ -45,6 +64,25 @@
 #endif
 #if defined(__BYTE_ORDER__) && __BYTE_ORDER__ != __ORDER_LITTLE_ENDIAN__
 #error "sframe: the processor must be little-endian"
+#endif
+
+/*
+ * The version of this header, by semantic versioning: below 1.0 a minor version may change a call.
+ * sframe_version tells the archive's own.
+ */
+#define SFRAME_VERSION_MAJOR 0
+#define SFRAME_VERSION_MINOR 2
+#define SFRAME_VERSION_PATCH 0
+#define SFRAME_VERSION "0.2.0"
+#define SFRAME_VERSION_NUMBER (10000 * SFRAME_VERSION_MAJOR + 100 * SFRAME_VERSION_MINOR + SFRAME_VERSION_PATCH)
+
+/* The compiler warns where an answer is not looked at. What the header itself defines is inline, in C89 too. */
+#if defined(__GNUC__)
+#define SFRAME_NODISCARD __attribute__((warn_unused_result))
+#define SFRAME_INLINE static __inline__
+#else
+#define SFRAME_NODISCARD
+#define SFRAME_INLINE static inline
 #endif
 
 #ifdef __cplusplus
@@ -112,7 +150,7 @@ enum sframe_suite {
 
 /* The most keys of a store, and the bytes of a store for so many keys, 1 to SFRAME_MAX_KEYS. */
 #define SFRAME_MAX_KEYS 1024
-#define SFRAME_STORE_SIZE(keys) ((size_t)96 * (keys))
+#define SFRAME_STORE_SIZE(keys) (UINT64_C(96) * (keys))
 
 /* The limits of base keys, plaintext and metadata, in bytes. */
 #define SFRAME_MIN_BASE_KEY 16
@@ -132,7 +170,7 @@ enum sframe_suite {
 #define SFRAME_MAX_RATCHET_BITS 16
 
 /* A room that is enough for the frame of a plaintext of so many bytes, under every suite. */
-#define SFRAME_FRAME_ROOM(plaintext_len) ((size_t)(plaintext_len) + SFRAME_MAX_HEADER + SFRAME_MAX_TAG)
+#define SFRAME_FRAME_ROOM(plaintext_len) (UINT64_C(0) + SFRAME_MAX_HEADER + SFRAME_MAX_TAG + (plaintext_len))
 
 /*
  * Makes a store with no keys: all of its bytes become zero. What it held before is gone.
@@ -140,6 +178,7 @@ enum sframe_suite {
  * SFRAME_DONE, or SFRAME_STORE_NOT_SOUND where store_len is not SFRAME_STORE_SIZE of 1 to
  * SFRAME_MAX_KEYS.
  */
+SFRAME_NODISCARD
 uint32_t sframe_make(uint8_t *store, size_t store_len);
 
 /*
@@ -154,12 +193,14 @@ uint32_t sframe_make(uint8_t *store, size_t store_len);
  * SFRAME_DONE, or the first of SFRAME_STORE_NOT_SOUND, SFRAME_SUITE_UNKNOWN, SFRAME_SENDING_BARRED,
  * SFRAME_BASE_KEY_LENGTH, SFRAME_KID_HELD, SFRAME_STORE_FULL that holds.
  */
+SFRAME_NODISCARD
 uint32_t sframe_add_sending(uint8_t *store, size_t store_len, uint64_t kid, uint64_t suite, const uint8_t *base_key,
                             size_t base_key_len);
 
 /*
  * Adds a key for opening, of any suite; it has opened nothing yet. As sframe_add_sending in all else.
  */
+SFRAME_NODISCARD
 uint32_t sframe_add_receiving(uint8_t *store, size_t store_len, uint64_t kid, uint64_t suite, const uint8_t *base_key,
                               size_t base_key_len);
 
@@ -172,11 +213,13 @@ uint32_t sframe_add_receiving(uint8_t *store, size_t store_len, uint64_t kid, ui
  * SFRAME_DONE, or the first of SFRAME_STORE_NOT_SOUND, SFRAME_KID_UNKNOWN, SFRAME_WRONG_ROLE that
  * holds.
  */
+SFRAME_NODISCARD
 uint32_t sframe_remove(uint8_t *store, size_t store_len, uint64_t kid);
 
 /*
  * Removes a key as sframe_remove does, and looks for its record at place first.
  */
+SFRAME_NODISCARD
 uint32_t sframe_remove_near(uint8_t *store, size_t store_len, uint64_t kid, size_t place);
 
 /*
@@ -192,6 +235,7 @@ uint32_t sframe_remove_near(uint8_t *store, size_t store_len, uint64_t kid, size
  * SFRAME_DONE, also where there are none; or the first of SFRAME_STORE_NOT_SOUND, SFRAME_GROUP_KID_TOO_LONG
  * (epoch_width is above 64), SFRAME_GROUP_PART_TOO_LARGE (epoch_bits is 2^epoch_width or more) that holds.
  */
+SFRAME_NODISCARD
 uint32_t sframe_change_epoch(uint8_t *store, size_t store_len, uint64_t epoch_width, uint64_t epoch_bits);
 
 /*
@@ -200,6 +244,7 @@ uint32_t sframe_change_epoch(uint8_t *store, size_t store_len, uint64_t epoch_wi
  * SFRAME_DONE: *place is the number of the record, from 0.
  * Else the first of SFRAME_STORE_NOT_SOUND, SFRAME_KID_UNKNOWN that holds: *place is 0.
  */
+SFRAME_NODISCARD
 uint32_t sframe_find(const uint8_t *store, size_t store_len, uint64_t kid, size_t *place);
 
 /*
@@ -214,6 +259,7 @@ uint32_t sframe_find(const uint8_t *store, size_t store_len, uint64_t kid, size_
  * SFRAME_COUNTER_SPENT, SFRAME_TOO_LONG, SFRAME_ROOM_SHORT that holds: *length is 0, no counter is
  * used up, and store and room stay as they were.
  */
+SFRAME_NODISCARD
 uint32_t sframe_seal(uint8_t *store, size_t store_len, uint64_t kid, const uint8_t *metadata, size_t metadata_len,
                      const uint8_t *plaintext, size_t plaintext_len, uint8_t *out, size_t out_len, size_t *length);
 
@@ -223,6 +269,7 @@ uint32_t sframe_seal(uint8_t *store, size_t store_len, uint64_t kid, const uint8
  * SFRAME_ROOM_SHORT holds where out_len is less than offset and frame together, which is so too where the
  * offset lies past the end; any offset may be given. Offset 0 is sframe_seal.
  */
+SFRAME_NODISCARD
 uint32_t sframe_seal_at(uint8_t *store, size_t store_len, uint64_t kid, const uint8_t *metadata, size_t metadata_len,
                         const uint8_t *plaintext, size_t plaintext_len, uint8_t *out, size_t out_len, size_t offset,
                         size_t *length);
@@ -230,6 +277,7 @@ uint32_t sframe_seal_at(uint8_t *store, size_t store_len, uint64_t kid, const ui
 /*
  * Seals as sframe_seal_at does, and looks for the record of kid at place first.
  */
+SFRAME_NODISCARD
 uint32_t sframe_seal_near(uint8_t *store, size_t store_len, uint64_t kid, size_t place, const uint8_t *metadata,
                           size_t metadata_len, const uint8_t *plaintext, size_t plaintext_len, uint8_t *out,
                           size_t out_len, size_t offset, size_t *length);
@@ -249,12 +297,14 @@ uint32_t sframe_seal_near(uint8_t *store, size_t store_len, uint64_t kid, size_t
  * SFRAME_WRONG_ROLE, SFRAME_FRAME_SHORT, SFRAME_TOO_LONG, SFRAME_ROOM_SHORT, SFRAME_ALREADY_OPENED,
  * SFRAME_TOO_OLD, SFRAME_TAG_DIFFERS that holds: *length is 0, and store and room stay as they were.
  */
+SFRAME_NODISCARD
 uint32_t sframe_open(uint8_t *store, size_t store_len, const uint8_t *frame, size_t frame_len,
                      const uint8_t *metadata, size_t metadata_len, uint8_t *out, size_t out_len, size_t *length);
 
 /*
  * Opens as sframe_open does, and looks for the record of the frame's key number at place first.
  */
+SFRAME_NODISCARD
 uint32_t sframe_open_near(uint8_t *store, size_t store_len, size_t place, const uint8_t *frame, size_t frame_len,
                           const uint8_t *metadata, size_t metadata_len, uint8_t *out, size_t out_len, size_t *length);
 
@@ -266,6 +316,7 @@ uint32_t sframe_open_near(uint8_t *store, size_t store_len, size_t place, const 
  * Else the first of SFRAME_STORE_NOT_SOUND, SFRAME_KID_UNKNOWN, SFRAME_WRONG_ROLE that holds: *count
  * is 0.
  */
+SFRAME_NODISCARD
 uint32_t sframe_report(const uint8_t *store, size_t store_len, uint64_t kid, uint64_t *count);
 
 /*
@@ -274,6 +325,7 @@ uint32_t sframe_report(const uint8_t *store, size_t store_len, uint64_t kid, uin
  * SFRAME_DONE: *length is the header's length, 1 to SFRAME_MAX_HEADER; the room beyond it stays as it was.
  * SFRAME_ROOM_SHORT: out_len is less than the header's length; *length is 0 and the room stays as it was.
  */
+SFRAME_NODISCARD
 uint32_t sframe_write_header(uint64_t kid, uint64_t ctr, uint8_t *out, size_t out_len, size_t *length);
 
 /*
@@ -282,15 +334,20 @@ uint32_t sframe_write_header(uint64_t kid, uint64_t ctr, uint8_t *out, size_t ou
  * SFRAME_DONE: *length is the header's length, without the offset; the room before it and beyond it stays as it was.
  * SFRAME_ROOM_SHORT: out_len is less than offset and header together; *length is 0 and the room stays as it was.
  */
+SFRAME_NODISCARD
 uint32_t sframe_write_header_at(uint64_t kid, uint64_t ctr, uint8_t *out, size_t out_len, size_t offset,
                                 size_t *length);
 
 /*
  * Reads the header at the front of the bytes, whatever follows it. A number may stand in more bytes than it needs.
  *
+ * Given a frame, it tells whose it is without a key, say to a server on the way: its key number, its counter, and by
+ * the length where ciphertext and tag begin. Nothing of it is authenticated; only sframe_open does that.
+ *
  * SFRAME_DONE: *kid, *ctr and *length are the header's two numbers and its length.
  * SFRAME_HEADER_INVALID: the bytes end before the header does; *kid, *ctr and *length are 0.
  */
+SFRAME_NODISCARD
 uint32_t sframe_read_header(const uint8_t *bytes, size_t bytes_len, uint64_t *kid, uint64_t *ctr, size_t *length);
 
 /*
@@ -304,6 +361,7 @@ uint32_t sframe_read_header(const uint8_t *bytes, size_t bytes_len, uint64_t *ki
  * Else the first of SFRAME_SUITE_UNKNOWN, SFRAME_BASE_KEY_LENGTH, SFRAME_TOO_MANY_STEPS,
  * SFRAME_ROOM_SHORT that holds: *length is 0 and the room stays as it was.
  */
+SFRAME_NODISCARD
 uint32_t sframe_ratchet(uint64_t suite, const uint8_t *base_key, size_t base_key_len, uint64_t steps, uint8_t *out,
                         size_t out_len, size_t *length);
 
@@ -316,6 +374,7 @@ uint32_t sframe_ratchet(uint64_t suite, const uint8_t *base_key, size_t base_key
  * SFRAME_RATCHET_KID_INVALID: bits is not 1 to SFRAME_MAX_RATCHET_BITS, or that number is 2^64 or more;
  * *kid is 0.
  */
+SFRAME_NODISCARD
 uint32_t sframe_ratchet_kid(uint64_t generation, uint64_t step, uint64_t bits, uint64_t *kid);
 
 /*
@@ -328,6 +387,7 @@ uint32_t sframe_ratchet_kid(uint64_t generation, uint64_t step, uint64_t bits, u
  * SFRAME_GROUP_PART_TOO_LARGE, where index is 2^index_width or more; SFRAME_GROUP_KID_TOO_LONG, where that
  * number is 2^64 or more. *kid is 0 then.
  */
+SFRAME_NODISCARD
 uint32_t sframe_group_kid(uint64_t context, uint64_t index, uint64_t epoch, uint64_t index_width,
                           uint64_t epoch_width, uint64_t *kid);
 
@@ -337,8 +397,69 @@ uint32_t sframe_group_kid(uint64_t context, uint64_t index, uint64_t epoch, uint
  * SFRAME_DONE: *context, *index and *epoch are the three parts.
  * SFRAME_GROUP_KID_TOO_LONG: the widths are above 64 together; the three are 0.
  */
+SFRAME_NODISCARD
 uint32_t sframe_group_parts(uint64_t kid, uint64_t index_width, uint64_t epoch_width, uint64_t *context,
                             uint64_t *index, uint64_t *epoch);
+
+/*
+ * The version of the archive, as SFRAME_VERSION_NUMBER is that of this header: where the two differ, archive and
+ * header are not of one release.
+ */
+SFRAME_NODISCARD
+uint32_t sframe_version(void);
+
+/*
+ * What an answer says, as a sentence for a log; "unknown answer" where the number is none of enum sframe_answer.
+ */
+SFRAME_INLINE const char *sframe_answer_text(uint32_t answer)
+{
+    switch (answer) {
+    case SFRAME_DONE:
+        return "done";
+    case SFRAME_STORE_NOT_SOUND:
+        return "the store is not sound";
+    case SFRAME_SUITE_UNKNOWN:
+        return "there is no such cipher suite: they are numbered 1 to 5";
+    case SFRAME_BASE_KEY_LENGTH:
+        return "the base key must have 16 to 64 bytes";
+    case SFRAME_KID_HELD:
+        return "the store has this key number already";
+    case SFRAME_STORE_FULL:
+        return "the store has no empty record left";
+    case SFRAME_KID_UNKNOWN:
+        return "the store does not have this key number";
+    case SFRAME_WRONG_ROLE:
+        return "the role of this key number does not allow the call";
+    case SFRAME_COUNTER_SPENT:
+        return "the key has no counter left";
+    case SFRAME_TOO_LONG:
+        return "the plaintext has more than 32,768 bytes or the metadata more than 1,024";
+    case SFRAME_HEADER_INVALID:
+        return "the header is cut short";
+    case SFRAME_FRAME_SHORT:
+        return "the frame is too short to hold a tag";
+    case SFRAME_ROOM_SHORT:
+        return "the room is too short for the result";
+    case SFRAME_TAG_DIFFERS:
+        return "the tag does not match";
+    case SFRAME_ALREADY_OPENED:
+        return "a frame with this counter was opened before";
+    case SFRAME_TOO_OLD:
+        return "the counter lies 64 or more below the highest that was opened";
+    case SFRAME_SENDING_BARRED:
+        return "no key is added for sending with suite 3: its tags have 4 bytes";
+    case SFRAME_RATCHET_KID_INVALID:
+        return "a step has 1 to 16 bits, and the key number must fit in 64";
+    case SFRAME_TOO_MANY_STEPS:
+        return "a key is walked at most 64 steps at once";
+    case SFRAME_GROUP_PART_TOO_LARGE:
+        return "the index or the bits of the epoch do not fit their width";
+    case SFRAME_GROUP_KID_TOO_LONG:
+        return "the widths are above 64 together, or the key number does not fit in 64 bits";
+    default:
+        return "unknown answer";
+    }
+}
 
 #ifdef __cplusplus
 }

@@ -1,3 +1,4 @@
+// SPDX-License-Identifier: MIT
 //! Secure objects over MoQ (draft-ietf-moq-secure-objects): the safe wrapper over
 //! the sealing layer's second static library.
 //!
@@ -25,9 +26,21 @@
 //! ```
 //!
 //! [`raw`] has the same calls with bare numbers, and [`ffi`] the C functions.
+//!
+//! # Features
+//!
+//! Without any the crate needs `core` alone. `alloc` adds the calls that answer a
+//! vector; `std`, which is on by default, adds `alloc` and a [`Refusal`] as a
+//! `std::io::Error`.
 
+#![no_std]
 #![deny(unsafe_code)]
 #![deny(unsafe_op_in_unsafe_fn)]
+
+#[cfg(feature = "alloc")]
+extern crate alloc;
+#[cfg(feature = "std")]
+extern crate std;
 
 #[allow(unsafe_code)]
 pub mod ffi;
@@ -37,7 +50,7 @@ mod refusal;
 mod store;
 
 pub use refusal::Refusal;
-pub use sframe::{Role, Suite, MAX_BASE_KEY, MAX_PLAINTEXT, MIN_BASE_KEY};
+pub use sframe::{wipe, Role, Suite, MAX_BASE_KEY, MAX_PLAINTEXT, MIN_BASE_KEY};
 pub use store::{KeyId, Location, Properties, Track, TrackStore};
 
 /// The length of a record: a store of `n` tracks takes `n` times as many bytes.
@@ -48,3 +61,8 @@ pub const MAX_RECORDS: usize = 16;
 pub const MAX_NAME: usize = 256;
 /// The longest serialized immutable properties.
 pub const MAX_PROPERTIES: usize = 1_024;
+
+// The examples of the package's page are compiled.
+#[cfg(doctest)]
+#[doc = include_str!("../README.md")]
+struct Page;

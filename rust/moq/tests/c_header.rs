@@ -1,8 +1,10 @@
+// SPDX-License-Identifier: MIT
 //! The numbers of `include/moq.h` are the wrapper's, and where a cause is
 //! SFrame's too, those of `include/sframe.h`.
 
 use moq::*;
 use std::collections::HashMap;
+use testkit::answer_texts;
 
 /// Every name of a header that stands for a number, without its prefix.
 fn constants(header: &'static str, prefix: &str) -> HashMap<String, u64> {
@@ -74,4 +76,12 @@ fn sizes() {
     ] {
         assert_eq!(constants[name], size as u64, "{name}");
     }
+}
+
+/// The sentences of `moq_answer_text` are those that a refusal shows.
+#[test]
+fn texts() {
+    let header = include_str!("../../../include/moq.h");
+    let shown = Refusal::ALL.map(|refusal| refusal.to_string());
+    assert_eq!(answer_texts(header, "moq_answer_text"), shown);
 }

@@ -1,3 +1,4 @@
+// SPDX-License-Identifier: MIT
 //! The service bench's log of sealings: records of 16 bytes, KID then counter,
 //! big-endian.
 
@@ -14,7 +15,7 @@ pub fn report(log: &[u8]) -> String {
     if log.len() > MAX_LOG {
         return "too long\n".to_string();
     }
-    if log.len() % LOG_RECORD != 0 {
+    if !log.len().is_multiple_of(LOG_RECORD) {
         return "bad length\n".to_string();
     }
     let mut times = BTreeMap::<(u64, u64), u64>::new();

@@ -1,3 +1,4 @@
+// SPDX-License-Identifier: MIT
 //! The C functions over slices, with their answers as bare numbers: 0 for done
 //! or the number of a refusal.
 //!
@@ -28,4 +29,11 @@ pub struct Written {
     pub number: u32,
     /// How many bytes were written to the room, 0 when refused.
     pub length: usize,
+}
+
+/// The version of the archive: 10,000 times the major, 100 times the minor, and
+/// the patch.
+pub fn version() -> u32 {
+    // SAFETY: it takes nothing.
+    unsafe { crate::ffi::sframe_version() }
 }

@@ -1,7 +1,9 @@
+// SPDX-License-Identifier: MIT
 //! The numbers of `include/sframe.h` are the wrapper's.
 
 use sframe::*;
 use std::collections::HashMap;
+use testkit::answer_texts;
 
 /// Every name of the header that stands for a number.
 fn constants() -> HashMap<&'static str, u64> {
@@ -76,8 +78,29 @@ fn sizes() {
         assert_eq!(constants[&*format!("SFRAME_{name}")], size as u64, "{name}");
     }
     let header = include_str!("../../../include/sframe.h");
-    let store = format!("#define SFRAME_STORE_SIZE(keys) ((size_t){RECORD} * (keys))\n");
+    let store = format!("#define SFRAME_STORE_SIZE(keys) (UINT64_C({RECORD}) * (keys))\n");
     assert!(header.contains(&store));
     let lengths = format!("is not {RECORD} to {} in steps", MAX_RECORDS * RECORD);
     assert!(header.contains(&lengths));
+}
+
+/// The sentences of `sframe_answer_text` are those that a refusal shows.
+#[test]
+fn texts() {
+    let header = include_str!("../../../include/sframe.h");
+    let shown = Refusal::ALL.map(|refusal| refusal.to_string());
+    assert_eq!(answer_texts(header, "sframe_answer_text"), shown);
+}
+
+/// Header, archive and package are of one version.
+#[test]
+fn versions() {
+    let constants = constants();
+    let part = |name: &str| constants[&*format!("SFRAME_VERSION_{name}")] as u32;
+    assert_eq!(version(), (part("MAJOR"), part("MINOR"), part("PATCH")));
+    let (major, minor, patch) = version();
+    let text = format!("{major}.{minor}.{patch}");
+    assert_eq!(text, env!("CARGO_PKG_VERSION"));
+    let header = include_str!("../../../include/sframe.h");
+    assert!(header.contains(&format!("#define SFRAME_VERSION \"{text}\"\n")));
 }

@@ -1,3 +1,4 @@
+/* SPDX-License-Identifier: MIT */
 /*
  * Adds, seals and opens under every suite with secrets marked as undefined, so that valgrind tells of each address and
  * each branch that depends on one. scripts/secrets builds and runs it, and judges what valgrind says.
@@ -94,8 +95,11 @@ int main(void)
         uint32_t answer;
         memset(base_key, 0x5a, sizeof base_key);
         VALGRIND_MAKE_MEM_UNDEFINED(base_key, sizeof base_key);
-        sframe_make(sending, sizeof sending);
-        sframe_make(receiving, sizeof receiving);
+        answer = sframe_make(sending, sizeof sending);
+        if (answer == SFRAME_DONE)
+            answer = sframe_make(receiving, sizeof receiving);
+        if (answer != SFRAME_DONE)
+            bad += failed("make", suite, 0, answer);
         answer = add_sending(suite);
         if (answer != SFRAME_DONE)
             bad += failed("add for sending", suite, 0, answer);

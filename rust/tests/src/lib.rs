@@ -1,3 +1,4 @@
+// SPDX-License-Identifier: MIT
 //! The sealing layer beside the reference: each function here makes one call
 //! on both and compares all that the call answers and leaves.
 
@@ -19,6 +20,11 @@ pub use stores::{
     after, done, frame, frame_with, made, retire, set_counter, set_window, spend, window, with_key,
     Key, ANY_KEY, COUNTER_AT, LAYOUT_AT, RECEIVE_ONLY, SPENT_AT, WINDOW_AT,
 };
+
+// The examples of the guide are run.
+#[cfg(doctest)]
+#[doc = include_str!("../../../docs/INTEGRATION.md")]
+struct Guide;
 
 /// The numbers of the refusals.
 pub mod number {
@@ -45,3 +51,8 @@ pub mod number {
     pub const GROUP_PART_TOO_LARGE: u32 = 22;
     pub const GROUP_KID_TOO_LONG: u32 = 23;
 }
+
+// The examples of the front page are compiled.
+#[cfg(doctest)]
+#[doc = include_str!("../../../README.md")]
+struct FrontPage;

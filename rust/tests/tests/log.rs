@@ -1,3 +1,4 @@
+// SPDX-License-Identifier: MIT
 //! The program `log_check` beside the reference, on logs that are piped into
 //! it: what it writes, to the byte.
 
@@ -123,7 +124,7 @@ fn random_logs() {
         let pairs: Vec<_> = (0..records)
             .map(|_| {
                 let (a, b) = (generator.u64(), generator.u64());
-                (a % 3 << shift, b % spread)
+                ((a % 3) << shift, b % spread)
             })
             .collect();
         compare(&log(pairs));

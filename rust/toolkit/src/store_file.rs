@@ -1,3 +1,4 @@
+// SPDX-License-Identifier: MIT
 //! A store in a file, or another file that runs change one after the other.
 
 use crate::console::note;

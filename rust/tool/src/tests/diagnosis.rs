@@ -1,3 +1,4 @@
+// SPDX-License-Identifier: MIT
 //! The words for what is wrong agree with the layer's judgement.
 
 use crate::diagnosis;
@@ -14,12 +15,12 @@ fn store() -> Vec<u8> {
         (Role::Receiving, Suite::Aes128GcmSha256_128),
     ];
     for (kid, (role, suite)) in (7..).zip(suites) {
-        store.add(role, suite, Kid(kid), &[7; 16]).unwrap();
+        store.add(role, Kid(kid), suite, &[7; 16]).unwrap();
     }
     let mut other = vec![0; RECORD];
     let mut sender = Store::make(&mut other).unwrap();
     let suite = Suite::Aes128GcmSha256_128;
-    sender.add(Role::Sending, suite, Kid(10), &[7; 16]).unwrap();
+    sender.add(Role::Sending, Kid(10), suite, &[7; 16]).unwrap();
     for _ in 0..3 {
         let frame = sender.seal_to_vec(Kid(10), Metadata::NONE, b"").unwrap();
         store.open_to_vec(&frame, Metadata::NONE).unwrap();

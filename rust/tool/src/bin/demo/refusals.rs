@@ -1,3 +1,4 @@
+// SPDX-License-Identifier: MIT
 //! Each refusal once.
 
 use crate::{refusal, BASE_KEY, KID};
@@ -18,9 +19,9 @@ pub fn show() -> Result<(), Refusal> {
     say!("\nEach refusal once. None of them changes a byte of store or room:\n");
     let (mut ward, mut doctor) = ([0; RECORD], [0; RECORD]);
     let mut store = Store::make(&mut ward)?;
-    store.add(Role::Sending, SUITE, KID, BASE_KEY)?;
+    store.add(Role::Sending, KID, SUITE, BASE_KEY)?;
     let frame = store.seal_to_vec(KID, Metadata::NONE, b"a picture")?;
-    Store::make(&mut doctor)?.add(Role::Receiving, SUITE, KID, BASE_KEY)?;
+    Store::make(&mut doctor)?.add(Role::Receiving, KID, SUITE, BASE_KEY)?;
 
     let before = (ward, doctor);
     of_stores(&mut ward, &mut doctor);
@@ -48,13 +49,13 @@ fn of_stores(ward: &mut [u8], doctor: &mut [u8]) {
         print(refusal, "a key is added for suite 6");
     }
     let mut ward = Store::over(ward);
-    let answer = ward.add(Role::Sending, SHORT_TAGS, Kid(1), BASE_KEY);
+    let answer = ward.add(Role::Sending, Kid(1), SHORT_TAGS, BASE_KEY);
     print(refusal(answer), "a key for sending is added for suite 3");
-    let answer = ward.add(Role::Sending, SUITE, Kid(1), &BASE_KEY[..15]);
+    let answer = ward.add(Role::Sending, Kid(1), SUITE, &BASE_KEY[..15]);
     print(refusal(answer), "a base key of 15 bytes is added");
-    let answer = ward.add(Role::Sending, SUITE, KID, BASE_KEY);
+    let answer = ward.add(Role::Sending, KID, SUITE, BASE_KEY);
     print(refusal(answer), "key number 200 is added a second time");
-    let answer = ward.add(Role::Sending, SUITE, Kid(1), BASE_KEY);
+    let answer = ward.add(Role::Sending, Kid(1), SUITE, BASE_KEY);
     print(refusal(answer), "a second key is added to a store for one");
     let answer = Store::over(doctor).remove(Kid(56));
     print(

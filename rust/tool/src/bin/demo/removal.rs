@@ -1,3 +1,4 @@
+// SPDX-License-Identifier: MIT
 //! What becomes of a key that is removed.
 
 use crate::{refusal, BASE_KEY, KID};
@@ -10,8 +11,8 @@ pub fn show() -> Result<(), Refusal> {
     let (mut ward, mut doctor) = ([0; 2 * RECORD], [0; 2 * RECORD]);
     let mut ward = Store::make(&mut ward)?;
     let mut doctor = Store::make(&mut doctor)?;
-    ward.add(Role::Sending, SUITE, KID, BASE_KEY)?;
-    doctor.add(Role::Receiving, SUITE, KID, BASE_KEY)?;
+    ward.add(Role::Sending, KID, SUITE, BASE_KEY)?;
+    doctor.add(Role::Receiving, KID, SUITE, BASE_KEY)?;
     let frame = ward.seal_to_vec(KID, Metadata::NONE, b"a picture")?;
     doctor.open_to_vec(&frame, Metadata::NONE)?;
 
@@ -26,7 +27,7 @@ pub fn show() -> Result<(), Refusal> {
     }
     let answer = ward.seal_to_vec(KID, Metadata::NONE, b"another picture");
     print("sealing", refusal(answer));
-    let answer = ward.add(Role::Sending, SUITE, KID, BASE_KEY);
+    let answer = ward.add(Role::Sending, KID, SUITE, BASE_KEY);
     print("adding it again", refusal(answer));
     say!("  So its counters never start again, and no nonce comes twice.");
 
@@ -34,7 +35,7 @@ pub fn show() -> Result<(), Refusal> {
     doctor.remove(KID)?;
     let answer = doctor.open_to_vec(&frame, Metadata::NONE);
     print("opening", refusal(answer));
-    doctor.add(Role::Receiving, SUITE, KID, BASE_KEY)?;
+    doctor.add(Role::Receiving, KID, SUITE, BASE_KEY)?;
     let opened = doctor.open_to_vec(&frame, Metadata::NONE)?;
     say!("  added again, it opens \"{}\"", opened.escape_ascii());
     say!("  So it has forgotten what it opened: a number returns with a new base key alone.");

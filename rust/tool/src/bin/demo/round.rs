@@ -1,3 +1,4 @@
+// SPDX-License-Identifier: MIT
 //! Frames sealed at one end and opened at the other.
 
 use crate::{hex, BASE_KEY, KID};
@@ -19,7 +20,7 @@ pub fn show() -> Result<(), Refusal> {
         let (mut ward, mut doctor) = ([0; RECORD], [0; RECORD]);
         let mut ward = sender(&mut ward, suite)?;
         let mut doctor = Store::make(&mut doctor)?;
-        doctor.add(Role::Receiving, suite, KID, BASE_KEY)?;
+        doctor.add(Role::Receiving, KID, suite, BASE_KEY)?;
 
         for picture in PICTURES {
             let frame = ward.seal_to_vec(KID, METADATA, picture)?;
@@ -45,14 +46,14 @@ pub fn show() -> Result<(), Refusal> {
 /// store of an earlier day: the record of the same key for receiving, marked as a
 /// sending one.
 fn sender(bytes: &mut [u8], suite: Suite) -> Result<Store<'_>, Refusal> {
-    let added = Store::make(bytes)?.add(Role::Sending, suite, KID, BASE_KEY);
+    let added = Store::make(bytes)?.add(Role::Sending, KID, suite, BASE_KEY);
     if let Err(refusal) = added {
         assert_eq!(refusal, Refusal::SendingBarred);
         say!(
             "  not added any more ({}); a stored sender goes on:",
             refusal.number()
         );
-        Store::over(bytes).add(Role::Receiving, suite, KID, BASE_KEY)?;
+        Store::over(bytes).add(Role::Receiving, KID, suite, BASE_KEY)?;
         bytes[0] = SENDING;
     }
     Ok(Store::over(bytes))

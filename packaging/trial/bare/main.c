@@ -1,0 +1,7 @@
+/* SPDX-License-Identifier: MIT */
+int bare(void);
+
+int main(void)
+{
+    return bare();
+}
