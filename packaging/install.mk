@@ -11,7 +11,10 @@ DOCDIR ?= $(DATADIR)/doc/ruddoshan
 DESTDIR ?=
 ARCH ?= $(shell uname -m)
 
-.PHONY: install uninstall
+.PHONY: usage install uninstall
+
+usage:
+	@echo "make install [PREFIX=/usr/local] [DESTDIR=] [ARCH=x86_64 or aarch64]; make uninstall with the same"
 
 install uninstall:
 	@PREFIX='$(PREFIX)' LIBDIR='$(LIBDIR)' INCLUDEDIR='$(INCLUDEDIR)' BINDIR='$(BINDIR)' DATADIR='$(DATADIR)' \

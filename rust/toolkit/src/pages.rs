@@ -108,6 +108,7 @@ pub fn manual(tool: &Tool) -> String {
     let name = tool.name;
     let version = tool.version;
     let mut page = format!(".TH {} 1 \"\" \"{name} {version}\"\n", name.to_uppercase());
+    page += ".nh\n.ad l\n";
     page += &format!(".SH NAME\n{name} \\- {}\n", roff(tool.summary));
     page += ".SH SYNOPSIS\n";
     for spec in tool.commands {
@@ -125,9 +126,7 @@ pub fn manual(tool: &Tool) -> String {
             page += if at == 0 { ".TP\n" } else { ".TQ\n" };
             page += &roff_form(name, spec, form);
         }
-        page += &roff_text(spec.text)
-            .replace(".PP\n", ".IP\n")
-            .replacen(".IP\n", "", 1);
+        page += &roff_text(spec.text).replace(".PP\n", ".IP\n");
     }
     page += &format!(
         ".PP\n.B {name} help\n.I COMMAND\nand\n.B \\-h\nbehind a command show its own help.\n"
@@ -140,12 +139,12 @@ pub fn manual(tool: &Tool) -> String {
 }
 
 fn roff_form(name: &str, spec: &Spec, form: &str) -> String {
-    format!(".B {name} {}\n{}\n", roff(spec.name), roff(form))
+    format!("\\fB{name} {}\\fP {}\n", roff(spec.name), roff(form))
 }
 
 /// Paragraphs; lines that begin with a space stay as they are.
 fn roff_text(text: &str) -> String {
-    let mut page = String::from(".PP\n");
+    let mut page = String::new();
     let mut kept = false;
     for line in text.lines() {
         let keep = line.starts_with(' ');
