@@ -555,10 +555,13 @@ static void *sender(void *nothing)
 static void threads(void)
 {
     pthread_t ids[THREADS];
+    pthread_attr_t small;
 
     make_with(shared.store, sizeof shared.store, KID, 1);
+    expect(pthread_attr_init(&small) == 0, "attributes of a thread");
+    (void)pthread_attr_setstacksize(&small, 16384); /* as the guide says; where the system wants more, it has more */
     for (int i = 0; i < THREADS; i++)
-        expect(pthread_create(&ids[i], NULL, sender, NULL) == 0, "a thread");
+        expect(pthread_create(&ids[i], &small, sender, NULL) == 0, "a thread");
     for (int i = 0; i < THREADS; i++)
         pthread_join(ids[i], NULL);
     for (size_t i = 0; i < sizeof seen; i++)
