@@ -39,7 +39,7 @@ static void make_with(uint8_t *store, size_t store_len, uint64_t kid, int sendin
 {
     expect(sframe_make(store, store_len) == SFRAME_DONE, "make");
     expect((sending ? sframe_add_sending : sframe_add_receiving)(store, store_len, kid, SUITE, BASE_KEY,
-                                                                sizeof BASE_KEY - 1)
+                                                                 sizeof BASE_KEY - 1)
                == SFRAME_DONE,
            "add");
 }
@@ -67,13 +67,16 @@ static void raised_is_sealed(void)
     memcpy(sealed, raised, sizeof sealed);
     for (int i = 0; i < 70000; i++)
         for (uint64_t kid = 7; kid <= KID; kid += KID - 7)
-            expect(sframe_seal(sealed, sizeof sealed, kid, NULL, 0, NULL, 0, frame, sizeof frame, &n) == SFRAME_DONE, "seal");
+            expect(sframe_seal(sealed, sizeof sealed, kid, NULL, 0, NULL, 0, frame, sizeof frame, &n) == SFRAME_DONE,
+                   "seal");
     expect(raise_counters(raised, sizeof raised, 70000) == SFRAME_DONE, "counters are raised");
     expect(memcmp(raised, sealed, sizeof raised) == 0, "a raised store is one that has sealed");
     expect(raise_counters(raised, sizeof raised, UINT64_MAX - 70000) == SFRAME_DONE, "raised to the last counter");
     expect(raise_counters(raised, sizeof raised, 1) == SFRAME_COUNTER_SPENT, "no counter wraps");
-    expect(sframe_seal(raised, sizeof raised, KID, NULL, 0, NULL, 0, frame, sizeof frame, &n) == SFRAME_DONE, "the last one seals");
-    expect(sframe_seal(raised, sizeof raised, KID, NULL, 0, NULL, 0, frame, sizeof frame, &n) == SFRAME_COUNTER_SPENT, "and no other");
+    expect(sframe_seal(raised, sizeof raised, KID, NULL, 0, NULL, 0, frame, sizeof frame, &n) == SFRAME_DONE,
+           "the last one seals");
+    expect(sframe_seal(raised, sizeof raised, KID, NULL, 0, NULL, 0, frame, sizeof frame, &n) == SFRAME_COUNTER_SPENT,
+           "and no other");
 }
 
 /* A terminal's life from one start to its end: it sends counters into the pipe until it is killed. */
@@ -108,7 +111,7 @@ static void killed(const char *folder)
     for (int life = 0; life < 30; life++) {
         const uint64_t frames = (uint64_t)rand() % 3000 + 1;
         uint64_t ctr;
-        int line[2];
+        int line[2], status;
         pid_t terminal;
 
         expect(pipe(line) == 0, "a pipe");
@@ -127,12 +130,12 @@ static void killed(const char *folder)
             last = ctr;
         }
         close(line[0]);
-        waitpid(terminal, NULL, 0);
+        expect(waitpid(terminal, &status, 0) == terminal && WIFSIGNALED(status), "it lived until it was killed");
     }
     printf("a file: %" PRIu64 " frames over 30 lives, last counter %" PRIu64 "\n", many, last);
 }
 
-/* What is in doubt is not read: a file that is gone, cut, longer, unsound, or has a second name; and one folder has one owner. */
+/* What is in doubt is not read: a file that is gone, cut, longer, unsound, or has a second name. A folder has one owner. */
 static void in_doubt(const char *folder)
 {
     static struct kept kept, other;
@@ -197,7 +200,8 @@ static uint64_t send_until_dark(uint8_t store[SLOT_STORE], uint64_t sent)
         if (slot_write(later) != 0)
             return sent;
         for (int i = 0; i < 3; i++) {
-            expect(sframe_seal(store, SLOT_STORE, KID, NULL, 0, BASE_KEY, 5, frame, sizeof frame, &n) == SFRAME_DONE, "seal");
+            expect(sframe_seal(store, SLOT_STORE, KID, NULL, 0, BASE_KEY, 5, frame, sizeof frame, &n) == SFRAME_DONE,
+                   "seal");
             expect(counter_of(frame, n) >= sent, "no counter comes back");
             sent = counter_of(frame, n) + 1;
         }
@@ -242,7 +246,9 @@ static size_t seal_all(size_t length)
     const size_t count = cut_count(length);
 
     for (size_t i = 0; i < count; i++)
-        expect(cut_seal(ward, sizeof ward, KID, picture, length, i, packets[i], CUT_ROOM, &packet_len[i]) == SFRAME_DONE, "seal a piece");
+        expect(cut_seal(ward, sizeof ward, KID, picture, length, i, packets[i], CUT_ROOM, &packet_len[i])
+                   == SFRAME_DONE,
+               "seal a piece");
     return count;
 }
 
@@ -281,7 +287,9 @@ static void lengths(void)
         for (size_t length = pieces[i] * CUT_PIECE - (pieces[i] > 0); length <= pieces[i] * CUT_PIECE + 1; length++) {
             terminals();
             if (length > LONGEST) {
-                expect(cut_seal(ward, sizeof ward, KID, picture, length, 0, packets[0], CUT_ROOM, &n) == SFRAME_TOO_LONG && n == 0, "too long");
+                expect(cut_seal(ward, sizeof ward, KID, picture, length, 0, packets[0], CUT_ROOM, &n) == SFRAME_TOO_LONG
+                           && n == 0,
+                       "too long");
                 continue;
             }
             for (int backwards = 0; backwards < 2; backwards++) {
@@ -290,11 +298,14 @@ static void lengths(void)
                 for (size_t j = 0; j < count; j++) {
                     const size_t at = backwards ? count - 1 - j : j;
 
-                    expect(hand(packets[at], packet_len[at], length, SFRAME_DONE) == (j + 1 == count), "whole with the last piece");
+                    expect(hand(packets[at], packet_len[at], length, SFRAME_DONE) == (j + 1 == count),
+                           "whole with the last piece");
                     expect(hand(packets[at], packet_len[at], length, SFRAME_ALREADY_OPENED) == 0, "a repeated piece");
                 }
             }
-            expect(cut_seal(ward, sizeof ward, KID, picture, length, cut_count(length), packets[0], CUT_ROOM, &n) == SFRAME_TOO_LONG, "no piece behind the last");
+            expect(cut_seal(ward, sizeof ward, KID, picture, length, cut_count(length), packets[0], CUT_ROOM, &n)
+                       == SFRAME_TOO_LONG,
+                   "no piece behind the last");
         }
     }
 }
@@ -331,13 +342,17 @@ static void tampered(void)
     seal_all(length);
     expect(hand(packets[0], packet_len[0], length, SFRAME_DONE) == 0, "one piece");
     seal_all(length);
-    expect(hand(packets[1], packet_len[1], length, SFRAME_DONE) == 0 && hand(packets[2], packet_len[2], length, SFRAME_DONE) == 0, "pieces of two pictures");
+    expect(hand(packets[1], packet_len[1], length, SFRAME_DONE) == 0
+               && hand(packets[2], packet_len[2], length, SFRAME_DONE) == 0,
+           "pieces of two pictures");
 
     /* Another sender's piece in the gap. */
     make_with(stranger, sizeof stranger, 201, 1);
-    expect(sframe_add_receiving(doctor, sizeof doctor, 201, SUITE, BASE_KEY, sizeof BASE_KEY - 1) == SFRAME_DONE, "add");
+    expect(sframe_add_receiving(doctor, sizeof doctor, 201, SUITE, BASE_KEY, sizeof BASE_KEY - 1) == SFRAME_DONE,
+           "add");
     for (int i = 0; i < 7; i++) /* the last has the counter of the piece that lacks */
-        expect(cut_seal(stranger, sizeof stranger, 201, picture, length, 0, other, CUT_ROOM, &n) == SFRAME_DONE, "seal a piece");
+        expect(cut_seal(stranger, sizeof stranger, 201, picture, length, 0, other, CUT_ROOM, &n) == SFRAME_DONE,
+               "seal a piece");
     expect(cut_open(doctor, sizeof doctor, other, n, out, &piece) == SFRAME_DONE, "open a piece");
     for (size_t i = 0; i < TABLE; i++)
         expect(table[i].have == 0 || cut_join(&table[i], &piece, out) == 0, "no piece of another sender");
@@ -349,8 +364,8 @@ static void tampered(void)
 
         if (kind == 4)
             terminals();
-        expect(sframe_seal_at(ward, sizeof ward, KID, fronts[kind], CUT_FRONT, picture, kind == 3 ? CUT_PIECE - 1 : CUT_PIECE,
-                              other, CUT_ROOM, CUT_FRONT, &n)
+        expect(sframe_seal_at(ward, sizeof ward, KID, fronts[kind], CUT_FRONT, picture,
+                              kind == 3 ? CUT_PIECE - 1 : CUT_PIECE, other, CUT_ROOM, CUT_FRONT, &n)
                    == SFRAME_DONE,
                "seal");
         memcpy(other, fronts[kind], CUT_FRONT);
@@ -384,7 +399,8 @@ static void tables(void)
         changed.first += wrong == 1;
         changed.count += wrong == 2;
         changed.number += wrong == 3;
-        expect(cut_join(&one, &changed, out) == 0 && one.have == 2 && one.length == 1, "a piece that is not the one that lacks");
+        expect(cut_join(&one, &changed, out) == 0 && one.have == 2 && one.length == 1,
+               "a piece that is not the one that lacks");
     }
     expect(cut_join(&one, &piece[0], out) == 1 && one.length == CUT_PIECE + 1, "the one that lacks");
 }
@@ -438,31 +454,39 @@ static void steps(void)
     for (uint32_t answer = SFRAME_DONE; answer == SFRAME_DONE; many++) {
         const uint64_t old = sender.kid;
 
-        expect(sframe_seal(store, sizeof store, sender.kid, NULL, 0, BASE_KEY, 5, frame, sizeof frame, &n) == SFRAME_DONE, "seal");
+        expect(sframe_seal(store, sizeof store, sender.kid, NULL, 0, BASE_KEY, 5, frame, sizeof frame, &n)
+                   == SFRAME_DONE,
+               "seal");
         expect(sframe_make(receiver, sizeof receiver) == SFRAME_DONE, "make");
         memcpy(before, receiver, sizeof before);
         frame[n - 1] ^= 1;
-        expect(follow(&known, STEP_BITS, receiver, sizeof receiver, frame, n, opened, sizeof opened, &m) == SFRAME_TAG_DIFFERS
+        expect(follow(&known, STEP_BITS, receiver, sizeof receiver, frame, n, opened, sizeof opened, &m)
+                       == SFRAME_TAG_DIFFERS
                    && m == 0 && memcmp(receiver, before, sizeof before) == 0,
                "a forged frame leaves no key behind");
         frame[n - 1] ^= 1;
         known.generation++;
-        expect(follow(&known, STEP_BITS, receiver, sizeof receiver, frame, n, opened, sizeof opened, &m) == SFRAME_KID_UNKNOWN, "another generation");
+        expect(follow(&known, STEP_BITS, receiver, sizeof receiver, frame, n, opened, sizeof opened, &m)
+                   == SFRAME_KID_UNKNOWN,
+               "another generation");
         known.generation--;
-        expect(follow(&known, STEP_BITS, receiver, sizeof receiver, frame, n, opened, sizeof opened, &m) == SFRAME_DONE && m == 5
-                   && memcmp(opened, BASE_KEY, 5) == 0,
+        expect(follow(&known, STEP_BITS, receiver, sizeof receiver, frame, n, opened, sizeof opened, &m) == SFRAME_DONE
+                   && m == 5 && memcmp(opened, BASE_KEY, 5) == 0,
                "the receiver follows");
-        expect(sframe_open(receiver, sizeof receiver, frame, n, NULL, 0, opened, sizeof opened, &m) == SFRAME_ALREADY_OPENED, "and has the key");
+        expect(sframe_open(receiver, sizeof receiver, frame, n, NULL, 0, opened, sizeof opened, &m)
+                   == SFRAME_ALREADY_OPENED,
+               "and has the key");
         answer = step_on(&sender, store, sizeof store);
         expect(sframe_seal(store, sizeof store, old, NULL, 0, BASE_KEY, 5, frame, sizeof frame, &n)
                    == (answer == SFRAME_DONE ? SFRAME_WRONG_ROLE : SFRAME_DONE),
                "the old key is retired, unless the step was refused");
     }
     expect(many == 1 << STEP_BITS, "as many steps as there are numbers");
-    expect(sframe_seal(store, sizeof store, sender.kid, NULL, 0, BASE_KEY, 5, frame, sizeof frame, &n) == SFRAME_DONE, "the last key is in force");
+    expect(sframe_seal(store, sizeof store, sender.kid, NULL, 0, BASE_KEY, 5, frame, sizeof frame, &n) == SFRAME_DONE,
+           "the last key is in force");
 }
 
-/* A group of three through forty epochs: whatever one seals the others open; a frame of an epoch that has ended is not opened. */
+/* A group of three through forty epochs: what one seals the others open, and no frame of an epoch that has ended. */
 static void epochs(void)
 {
     enum { MEMBERS = 3, EPOCHS = 40 };
@@ -476,11 +500,16 @@ static void epochs(void)
     for (uint64_t epoch = 0; epoch < EPOCHS; epoch++) {
         memset(base_key, (int)epoch + 1, sizeof base_key);
         for (uint64_t own = 0; own < MEMBERS; own++)
-            expect(epoch_begin(stores[own], sizeof stores[own], SUITE, epoch, MEMBERS, own, base_key, sizeof base_key, &kid[own]) == SFRAME_DONE, "an epoch begins");
+            expect(epoch_begin(stores[own], sizeof stores[own], SUITE, epoch, MEMBERS, own, base_key, sizeof base_key,
+                               &kid[own])
+                       == SFRAME_DONE,
+                   "an epoch begins");
         for (uint64_t own = 0; own < MEMBERS; own++) {
-            expect(sframe_seal(stores[own], sizeof stores[own], kid[own], NULL, 0, BASE_KEY, 5, frame, sizeof frame, &n) == SFRAME_DONE, "seal");
-            expect(sframe_group_parts(kid[own], INDEX_WIDTH, EPOCH_WIDTH, &context, &index, &low) == SFRAME_DONE && index == own
-                       && (context << EPOCH_WIDTH | low) == epoch,
+            expect(sframe_seal(stores[own], sizeof stores[own], kid[own], NULL, 0, BASE_KEY, 5, frame, sizeof frame, &n)
+                       == SFRAME_DONE,
+                   "seal");
+            expect(sframe_group_parts(kid[own], INDEX_WIDTH, EPOCH_WIDTH, &context, &index, &low) == SFRAME_DONE
+                       && index == own && (context << EPOCH_WIDTH | low) == epoch,
                    "the key number tells the sender and the epoch");
             for (uint64_t other = 0; other < MEMBERS; other++)
                 expect(sframe_open(stores[other], sizeof stores[other], frame, n, NULL, 0, opened, sizeof opened, &m)
@@ -489,9 +518,13 @@ static void epochs(void)
         }
         if (epoch > 0) {
             expect(epoch_end(stores[0], sizeof stores[0], epoch - 1, 0) == SFRAME_DONE, "an epoch ends");
-            expect(sframe_open(stores[0], sizeof stores[0], last, last_len, NULL, 0, opened, sizeof opened, &m) == SFRAME_KID_UNKNOWN, "its keys are gone");
+            expect(sframe_open(stores[0], sizeof stores[0], last, last_len, NULL, 0, opened, sizeof opened, &m)
+                       == SFRAME_KID_UNKNOWN,
+                   "its keys are gone");
         }
-        expect(sframe_seal(stores[1], sizeof stores[1], kid[1], NULL, 0, BASE_KEY, 5, last, sizeof last, &last_len) == SFRAME_DONE, "seal");
+        expect(sframe_seal(stores[1], sizeof stores[1], kid[1], NULL, 0, BASE_KEY, 5, last, sizeof last, &last_len)
+                   == SFRAME_DONE,
+               "seal");
     }
 }
 
@@ -506,7 +539,8 @@ __attribute__((noinline)) static void seal_and_wipe(void)
 {
     size_t n;
 
-    expect(sframe_seal(sealing, sizeof sealing, KID, NULL, 0, picture, 1200, sealed, sizeof sealed, &n) == SFRAME_DONE, "seal");
+    expect(sframe_seal(sealing, sizeof sealing, KID, NULL, 0, picture, 1200, sealed, sizeof sealed, &n) == SFRAME_DONE,
+           "seal");
     if (wipes)
         wipe_stack();
 }
