@@ -76,11 +76,13 @@
 #define SFRAME_VERSION "0.2.0"
 #define SFRAME_VERSION_NUMBER (10000 * SFRAME_VERSION_MAJOR + 100 * SFRAME_VERSION_MINOR + SFRAME_VERSION_PATCH)
 
-/* The compiler warns where an answer is not looked at. */
+/* The compiler warns where an answer is not looked at. What the header itself defines is inline, in C89 too. */
 #if defined(__GNUC__)
 #define SFRAME_NODISCARD __attribute__((warn_unused_result))
+#define SFRAME_INLINE static __inline__
 #else
 #define SFRAME_NODISCARD
+#define SFRAME_INLINE static inline
 #endif
 
 #ifdef __cplusplus
@@ -409,7 +411,7 @@ uint32_t sframe_version(void);
 /*
  * What an answer says, as a sentence for a log; "unknown answer" where the number is none of enum sframe_answer.
  */
-static inline const char *sframe_answer_text(uint32_t answer)
+SFRAME_INLINE const char *sframe_answer_text(uint32_t answer)
 {
     switch (answer) {
     case SFRAME_DONE:
