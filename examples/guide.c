@@ -1,8 +1,9 @@
 /* SPDX-License-Identifier: MIT */
 /*
- * Tries the code of docs/INTEGRATION.md, which scripts/guide writes to files: the store in a file with processes that are
- * killed, the store in flash with power that is cut at every byte, pictures in pieces with packets that are lost, changed,
- * repeated and exchanged, the ratchet, threads. Ends with status 0 where everything is as the guide says.
+ * Tries the table of docs/STORE.md, and the code of docs/INTEGRATION.md, which scripts/guide writes to files: the store in a
+ * file with processes that are killed, the store in flash with power that is cut at every byte, pictures in pieces with
+ * packets that are lost, changed, repeated and exchanged, ratchet, epochs, stack, threads. Ends with status 0 where
+ * everything is as the two say.
  *
  *     scripts/guide
  */
@@ -51,6 +52,113 @@ static uint64_t counter_of(const uint8_t *frame, size_t frame_len)
 
     expect(sframe_read_header(frame, frame_len, &kid, &ctr, &length) == SFRAME_DONE && kid == KID, "header");
     return ctr;
+}
+
+/* ---- docs/STORE.md */
+
+static uint64_t number_at(const uint8_t *bytes)
+{
+    uint64_t number = 0;
+
+    for (int i = 0; i < 8; i++)
+        number = number << 8 | bytes[i];
+    return number;
+}
+
+static int zeros(const uint8_t *bytes, size_t from, size_t to)
+{
+    while (from < to && bytes[from] == 0)
+        from++;
+    return from >= to;
+}
+
+/* What the table says of a record. */
+static int obeys(const uint8_t *record)
+{
+    const size_t key_end[] = { 0, 80, 80, 80, 48, 64 }, mark = record[0], suite = record[1];
+    const uint64_t highest = number_at(record + 80), mask = number_at(record + 88);
+
+    if (mark == 0)
+        return zeros(record, 0, 96);
+    if (mark > 3 || suite < 1 || suite > 5 || record[3] != 1)
+        return 0;
+    if (record[2] > 1 || (record[2] == 1 && (mark == 2 || number_at(record + 12) != UINT64_MAX)))
+        return 0;
+    if (mark == 2 && !zeros(record, 12, 20))
+        return 0;
+    if (mark == 3 ? !zeros(record, 20, 80) : !zeros(record, key_end[suite], 80))
+        return 0;
+    if (mark != 2 || mask == 0)
+        return highest == 0 && mask == 0;
+    return (mask & 1) == 1 && (highest >= 63 || mask >> (highest + 1) == 0);
+}
+
+static int is_sound(const uint8_t *store, size_t store_len)
+{
+    size_t place;
+
+    return sframe_find(store, store_len, 0, &place) != SFRAME_STORE_NOT_SOUND;
+}
+
+enum kind { SENDER, SPENT, RECEIVER, OPENED, RETIRED, RETIRED_SPENT, KINDS };
+
+/* A record of that kind. That of a sender is the one of a receiver with another mark, as long as neither was used. */
+static void make_kind(uint8_t record[SFRAME_STORE_SIZE(1)], uint64_t suite, enum kind kind)
+{
+    uint8_t sender[SFRAME_STORE_SIZE(1)], frame[SFRAME_FRAME_ROOM(0)], nothing[1];
+    const size_t size = sizeof sender;
+    size_t n, m;
+
+    expect(sframe_make(record, size) == SFRAME_DONE, "make");
+    expect(sframe_add_receiving(record, size, KID, suite, BASE_KEY, sizeof BASE_KEY - 1) == SFRAME_DONE, "add");
+    memcpy(sender, record, size);
+    sender[0] = 1;
+    for (int i = 0; i < 9 && kind == OPENED; i++)
+        expect(sframe_seal(sender, size, KID, NULL, 0, NULL, 0, frame, sizeof frame, &n) == SFRAME_DONE
+                   && (i % 3 == 1 || sframe_open(record, size, frame, n, NULL, 0, nothing, 0, &m) == SFRAME_DONE),
+               "open");
+    if (kind == RECEIVER || kind == OPENED)
+        return;
+    memcpy(record, sender, size);
+    if (kind == SPENT || kind == RETIRED_SPENT) {
+        memset(record + 12, 0xff, 8);
+        expect(sframe_seal(record, size, KID, NULL, 0, NULL, 0, frame, sizeof frame, &n) == SFRAME_DONE, "the last counter");
+    }
+    if (kind == RETIRED || kind == RETIRED_SPENT)
+        expect(sframe_remove(record, size, KID) == SFRAME_DONE, "remove");
+}
+
+/* Records of every kind and suite, each byte set to every value: the library calls sound what the table allows. */
+static void layout(void)
+{
+    uint8_t record[SFRAME_STORE_SIZE(1)], two[SFRAME_STORE_SIZE(2)];
+    size_t sound = 0, tried = 0;
+
+    for (uint64_t suite = 1; suite <= 5; suite++) {
+        for (enum kind kind = SENDER; kind < KINDS; kind++) {
+            for (size_t at = 0; at < sizeof record; at++) {
+                make_kind(record, suite, kind);
+                for (int value = 0; value < 256; value++, tried++) {
+                    record[at] = (uint8_t)value;
+                    expect(is_sound(record, sizeof record) == obeys(record), "sound is what the table allows");
+                    sound += (size_t)obeys(record);
+                }
+            }
+        }
+    }
+    make_with(two, sizeof two, KID, 1);
+    expect(is_sound(two, sizeof two), "a key and an empty record");
+    memcpy(two + 96, two, 96);
+    expect(!is_sound(two, sizeof two), "a key number twice");
+    two[96 + 11]++;
+    expect(is_sound(two, sizeof two), "rising key numbers");
+    two[11] += 2;
+    expect(!is_sound(two, sizeof two), "falling ones");
+    memset(two, 0, 96);
+    expect(!is_sound(two, sizeof two), "an empty record in front");
+    memset(two, 0, sizeof two);
+    expect(is_sound(two, sizeof two), "zeros throughout");
+    printf("layout: %zu records, %zu of them sound\n", tried, sound);
 }
 
 /* ---- a store that outlives the process */
@@ -608,6 +716,7 @@ int main(int count, char **words)
     expect(count == 2, "the argument is a folder that is empty");
     for (size_t i = 0; i < sizeof picture; i++)
         picture[i] = (uint8_t)rand();
+    layout();
     raised_is_sealed();
     killed(words[1]);
     in_doubt(words[1]);
