@@ -1,8 +1,9 @@
 /* SPDX-License-Identifier: MIT */
 /*
- * Tries the code of docs/INTEGRATION.md, which scripts/guide writes to files: the store in a file with processes that are
- * killed, the store in flash with power that is cut at every byte, pictures in pieces with packets that are lost, changed,
- * repeated and exchanged, the ratchet, threads. Ends with status 0 where everything is as the guide says.
+ * Tries the table of docs/STORE.md, and the code of docs/INTEGRATION.md, which scripts/guide writes to files: the store in a
+ * file with processes that are killed, the store in flash with power that is cut at every byte, pictures in pieces with
+ * packets that are lost, changed, repeated and exchanged, ratchet, epochs, stack, threads. Ends with status 0 where
+ * everything is as the two say.
  *
  *     scripts/guide
  */
@@ -39,7 +40,7 @@ static void make_with(uint8_t *store, size_t store_len, uint64_t kid, int sendin
 {
     expect(sframe_make(store, store_len) == SFRAME_DONE, "make");
     expect((sending ? sframe_add_sending : sframe_add_receiving)(store, store_len, kid, SUITE, BASE_KEY,
-                                                                sizeof BASE_KEY - 1)
+                                                                 sizeof BASE_KEY - 1)
                == SFRAME_DONE,
            "add");
 }
@@ -51,6 +52,113 @@ static uint64_t counter_of(const uint8_t *frame, size_t frame_len)
 
     expect(sframe_read_header(frame, frame_len, &kid, &ctr, &length) == SFRAME_DONE && kid == KID, "header");
     return ctr;
+}
+
+/* ---- docs/STORE.md */
+
+static uint64_t number_at(const uint8_t *bytes)
+{
+    uint64_t number = 0;
+
+    for (int i = 0; i < 8; i++)
+        number = number << 8 | bytes[i];
+    return number;
+}
+
+static int zeros(const uint8_t *bytes, size_t from, size_t to)
+{
+    while (from < to && bytes[from] == 0)
+        from++;
+    return from >= to;
+}
+
+/* What the table says of a record. */
+static int obeys(const uint8_t *record)
+{
+    const size_t key_end[] = { 0, 80, 80, 80, 48, 64 }, mark = record[0], suite = record[1];
+    const uint64_t highest = number_at(record + 80), mask = number_at(record + 88);
+
+    if (mark == 0)
+        return zeros(record, 0, 96);
+    if (mark > 3 || suite < 1 || suite > 5 || record[3] != 1)
+        return 0;
+    if (record[2] > 1 || (record[2] == 1 && (mark == 2 || number_at(record + 12) != UINT64_MAX)))
+        return 0;
+    if (mark == 2 && !zeros(record, 12, 20))
+        return 0;
+    if (mark == 3 ? !zeros(record, 20, 80) : !zeros(record, key_end[suite], 80))
+        return 0;
+    if (mark != 2 || mask == 0)
+        return highest == 0 && mask == 0;
+    return (mask & 1) == 1 && (highest >= 63 || mask >> (highest + 1) == 0);
+}
+
+static int is_sound(const uint8_t *store, size_t store_len)
+{
+    size_t place;
+
+    return sframe_find(store, store_len, 0, &place) != SFRAME_STORE_NOT_SOUND;
+}
+
+enum kind { SENDER, SPENT, RECEIVER, OPENED, RETIRED, RETIRED_SPENT, KINDS };
+
+/* A record of that kind. That of a sender is the one of a receiver with another mark, as long as neither was used. */
+static void make_kind(uint8_t record[SFRAME_STORE_SIZE(1)], uint64_t suite, enum kind kind)
+{
+    uint8_t sender[SFRAME_STORE_SIZE(1)], frame[SFRAME_FRAME_ROOM(0)], nothing[1];
+    const size_t size = sizeof sender;
+    size_t n, m;
+
+    expect(sframe_make(record, size) == SFRAME_DONE, "make");
+    expect(sframe_add_receiving(record, size, KID, suite, BASE_KEY, sizeof BASE_KEY - 1) == SFRAME_DONE, "add");
+    memcpy(sender, record, size);
+    sender[0] = 1;
+    for (int i = 0; i < 9 && kind == OPENED; i++)
+        expect(sframe_seal(sender, size, KID, NULL, 0, NULL, 0, frame, sizeof frame, &n) == SFRAME_DONE
+                   && (i % 3 == 1 || sframe_open(record, size, frame, n, NULL, 0, nothing, 0, &m) == SFRAME_DONE),
+               "open");
+    if (kind == RECEIVER || kind == OPENED)
+        return;
+    memcpy(record, sender, size);
+    if (kind == SPENT || kind == RETIRED_SPENT) {
+        memset(record + 12, 0xff, 8);
+        expect(sframe_seal(record, size, KID, NULL, 0, NULL, 0, frame, sizeof frame, &n) == SFRAME_DONE, "the last counter");
+    }
+    if (kind == RETIRED || kind == RETIRED_SPENT)
+        expect(sframe_remove(record, size, KID) == SFRAME_DONE, "remove");
+}
+
+/* Records of every kind and suite, each byte set to every value: the library calls sound what the table allows. */
+static void layout(void)
+{
+    uint8_t record[SFRAME_STORE_SIZE(1)], two[SFRAME_STORE_SIZE(2)];
+    size_t sound = 0, tried = 0;
+
+    for (uint64_t suite = 1; suite <= 5; suite++) {
+        for (enum kind kind = SENDER; kind < KINDS; kind++) {
+            for (size_t at = 0; at < sizeof record; at++) {
+                make_kind(record, suite, kind);
+                for (int value = 0; value < 256; value++, tried++) {
+                    record[at] = (uint8_t)value;
+                    expect(is_sound(record, sizeof record) == obeys(record), "sound is what the table allows");
+                    sound += (size_t)obeys(record);
+                }
+            }
+        }
+    }
+    make_with(two, sizeof two, KID, 1);
+    expect(is_sound(two, sizeof two), "a key and an empty record");
+    memcpy(two + 96, two, 96);
+    expect(!is_sound(two, sizeof two), "a key number twice");
+    two[96 + 11]++;
+    expect(is_sound(two, sizeof two), "rising key numbers");
+    two[11] += 2;
+    expect(!is_sound(two, sizeof two), "falling ones");
+    memset(two, 0, 96);
+    expect(!is_sound(two, sizeof two), "an empty record in front");
+    memset(two, 0, sizeof two);
+    expect(is_sound(two, sizeof two), "zeros throughout");
+    printf("layout: %zu records, %zu of them sound\n", tried, sound);
 }
 
 /* ---- a store that outlives the process */
@@ -67,13 +175,16 @@ static void raised_is_sealed(void)
     memcpy(sealed, raised, sizeof sealed);
     for (int i = 0; i < 70000; i++)
         for (uint64_t kid = 7; kid <= KID; kid += KID - 7)
-            expect(sframe_seal(sealed, sizeof sealed, kid, NULL, 0, NULL, 0, frame, sizeof frame, &n) == SFRAME_DONE, "seal");
+            expect(sframe_seal(sealed, sizeof sealed, kid, NULL, 0, NULL, 0, frame, sizeof frame, &n) == SFRAME_DONE,
+                   "seal");
     expect(raise_counters(raised, sizeof raised, 70000) == SFRAME_DONE, "counters are raised");
     expect(memcmp(raised, sealed, sizeof raised) == 0, "a raised store is one that has sealed");
     expect(raise_counters(raised, sizeof raised, UINT64_MAX - 70000) == SFRAME_DONE, "raised to the last counter");
     expect(raise_counters(raised, sizeof raised, 1) == SFRAME_COUNTER_SPENT, "no counter wraps");
-    expect(sframe_seal(raised, sizeof raised, KID, NULL, 0, NULL, 0, frame, sizeof frame, &n) == SFRAME_DONE, "the last one seals");
-    expect(sframe_seal(raised, sizeof raised, KID, NULL, 0, NULL, 0, frame, sizeof frame, &n) == SFRAME_COUNTER_SPENT, "and no other");
+    expect(sframe_seal(raised, sizeof raised, KID, NULL, 0, NULL, 0, frame, sizeof frame, &n) == SFRAME_DONE,
+           "the last one seals");
+    expect(sframe_seal(raised, sizeof raised, KID, NULL, 0, NULL, 0, frame, sizeof frame, &n) == SFRAME_COUNTER_SPENT,
+           "and no other");
 }
 
 /* A terminal's life from one start to its end: it sends counters into the pipe until it is killed. */
@@ -108,7 +219,7 @@ static void killed(const char *folder)
     for (int life = 0; life < 30; life++) {
         const uint64_t frames = (uint64_t)rand() % 3000 + 1;
         uint64_t ctr;
-        int line[2];
+        int line[2], status;
         pid_t terminal;
 
         expect(pipe(line) == 0, "a pipe");
@@ -127,12 +238,12 @@ static void killed(const char *folder)
             last = ctr;
         }
         close(line[0]);
-        waitpid(terminal, NULL, 0);
+        expect(waitpid(terminal, &status, 0) == terminal && WIFSIGNALED(status), "it lived until it was killed");
     }
     printf("a file: %" PRIu64 " frames over 30 lives, last counter %" PRIu64 "\n", many, last);
 }
 
-/* What is in doubt is not read: a file that is gone, cut, longer, unsound, or has a second name; and one folder has one owner. */
+/* What is in doubt is not read: a file that is gone, cut, longer, unsound, or has a second name. A folder has one owner. */
 static void in_doubt(const char *folder)
 {
     static struct kept kept, other;
@@ -197,7 +308,8 @@ static uint64_t send_until_dark(uint8_t store[SLOT_STORE], uint64_t sent)
         if (slot_write(later) != 0)
             return sent;
         for (int i = 0; i < 3; i++) {
-            expect(sframe_seal(store, SLOT_STORE, KID, NULL, 0, BASE_KEY, 5, frame, sizeof frame, &n) == SFRAME_DONE, "seal");
+            expect(sframe_seal(store, SLOT_STORE, KID, NULL, 0, BASE_KEY, 5, frame, sizeof frame, &n) == SFRAME_DONE,
+                   "seal");
             expect(counter_of(frame, n) >= sent, "no counter comes back");
             sent = counter_of(frame, n) + 1;
         }
@@ -242,7 +354,9 @@ static size_t seal_all(size_t length)
     const size_t count = cut_count(length);
 
     for (size_t i = 0; i < count; i++)
-        expect(cut_seal(ward, sizeof ward, KID, picture, length, i, packets[i], CUT_ROOM, &packet_len[i]) == SFRAME_DONE, "seal a piece");
+        expect(cut_seal(ward, sizeof ward, KID, picture, length, i, packets[i], CUT_ROOM, &packet_len[i])
+                   == SFRAME_DONE,
+               "seal a piece");
     return count;
 }
 
@@ -281,7 +395,9 @@ static void lengths(void)
         for (size_t length = pieces[i] * CUT_PIECE - (pieces[i] > 0); length <= pieces[i] * CUT_PIECE + 1; length++) {
             terminals();
             if (length > LONGEST) {
-                expect(cut_seal(ward, sizeof ward, KID, picture, length, 0, packets[0], CUT_ROOM, &n) == SFRAME_TOO_LONG && n == 0, "too long");
+                expect(cut_seal(ward, sizeof ward, KID, picture, length, 0, packets[0], CUT_ROOM, &n) == SFRAME_TOO_LONG
+                           && n == 0,
+                       "too long");
                 continue;
             }
             for (int backwards = 0; backwards < 2; backwards++) {
@@ -290,11 +406,14 @@ static void lengths(void)
                 for (size_t j = 0; j < count; j++) {
                     const size_t at = backwards ? count - 1 - j : j;
 
-                    expect(hand(packets[at], packet_len[at], length, SFRAME_DONE) == (j + 1 == count), "whole with the last piece");
+                    expect(hand(packets[at], packet_len[at], length, SFRAME_DONE) == (j + 1 == count),
+                           "whole with the last piece");
                     expect(hand(packets[at], packet_len[at], length, SFRAME_ALREADY_OPENED) == 0, "a repeated piece");
                 }
             }
-            expect(cut_seal(ward, sizeof ward, KID, picture, length, cut_count(length), packets[0], CUT_ROOM, &n) == SFRAME_TOO_LONG, "no piece behind the last");
+            expect(cut_seal(ward, sizeof ward, KID, picture, length, cut_count(length), packets[0], CUT_ROOM, &n)
+                       == SFRAME_TOO_LONG,
+                   "no piece behind the last");
         }
     }
 }
@@ -331,13 +450,17 @@ static void tampered(void)
     seal_all(length);
     expect(hand(packets[0], packet_len[0], length, SFRAME_DONE) == 0, "one piece");
     seal_all(length);
-    expect(hand(packets[1], packet_len[1], length, SFRAME_DONE) == 0 && hand(packets[2], packet_len[2], length, SFRAME_DONE) == 0, "pieces of two pictures");
+    expect(hand(packets[1], packet_len[1], length, SFRAME_DONE) == 0
+               && hand(packets[2], packet_len[2], length, SFRAME_DONE) == 0,
+           "pieces of two pictures");
 
     /* Another sender's piece in the gap. */
     make_with(stranger, sizeof stranger, 201, 1);
-    expect(sframe_add_receiving(doctor, sizeof doctor, 201, SUITE, BASE_KEY, sizeof BASE_KEY - 1) == SFRAME_DONE, "add");
+    expect(sframe_add_receiving(doctor, sizeof doctor, 201, SUITE, BASE_KEY, sizeof BASE_KEY - 1) == SFRAME_DONE,
+           "add");
     for (int i = 0; i < 7; i++) /* the last has the counter of the piece that lacks */
-        expect(cut_seal(stranger, sizeof stranger, 201, picture, length, 0, other, CUT_ROOM, &n) == SFRAME_DONE, "seal a piece");
+        expect(cut_seal(stranger, sizeof stranger, 201, picture, length, 0, other, CUT_ROOM, &n) == SFRAME_DONE,
+               "seal a piece");
     expect(cut_open(doctor, sizeof doctor, other, n, out, &piece) == SFRAME_DONE, "open a piece");
     for (size_t i = 0; i < TABLE; i++)
         expect(table[i].have == 0 || cut_join(&table[i], &piece, out) == 0, "no piece of another sender");
@@ -349,8 +472,8 @@ static void tampered(void)
 
         if (kind == 4)
             terminals();
-        expect(sframe_seal_at(ward, sizeof ward, KID, fronts[kind], CUT_FRONT, picture, kind == 3 ? CUT_PIECE - 1 : CUT_PIECE,
-                              other, CUT_ROOM, CUT_FRONT, &n)
+        expect(sframe_seal_at(ward, sizeof ward, KID, fronts[kind], CUT_FRONT, picture,
+                              kind == 3 ? CUT_PIECE - 1 : CUT_PIECE, other, CUT_ROOM, CUT_FRONT, &n)
                    == SFRAME_DONE,
                "seal");
         memcpy(other, fronts[kind], CUT_FRONT);
@@ -384,7 +507,8 @@ static void tables(void)
         changed.first += wrong == 1;
         changed.count += wrong == 2;
         changed.number += wrong == 3;
-        expect(cut_join(&one, &changed, out) == 0 && one.have == 2 && one.length == 1, "a piece that is not the one that lacks");
+        expect(cut_join(&one, &changed, out) == 0 && one.have == 2 && one.length == 1,
+               "a piece that is not the one that lacks");
     }
     expect(cut_join(&one, &piece[0], out) == 1 && one.length == CUT_PIECE + 1, "the one that lacks");
 }
@@ -438,31 +562,39 @@ static void steps(void)
     for (uint32_t answer = SFRAME_DONE; answer == SFRAME_DONE; many++) {
         const uint64_t old = sender.kid;
 
-        expect(sframe_seal(store, sizeof store, sender.kid, NULL, 0, BASE_KEY, 5, frame, sizeof frame, &n) == SFRAME_DONE, "seal");
+        expect(sframe_seal(store, sizeof store, sender.kid, NULL, 0, BASE_KEY, 5, frame, sizeof frame, &n)
+                   == SFRAME_DONE,
+               "seal");
         expect(sframe_make(receiver, sizeof receiver) == SFRAME_DONE, "make");
         memcpy(before, receiver, sizeof before);
         frame[n - 1] ^= 1;
-        expect(follow(&known, STEP_BITS, receiver, sizeof receiver, frame, n, opened, sizeof opened, &m) == SFRAME_TAG_DIFFERS
+        expect(follow(&known, STEP_BITS, receiver, sizeof receiver, frame, n, opened, sizeof opened, &m)
+                       == SFRAME_TAG_DIFFERS
                    && m == 0 && memcmp(receiver, before, sizeof before) == 0,
                "a forged frame leaves no key behind");
         frame[n - 1] ^= 1;
         known.generation++;
-        expect(follow(&known, STEP_BITS, receiver, sizeof receiver, frame, n, opened, sizeof opened, &m) == SFRAME_KID_UNKNOWN, "another generation");
+        expect(follow(&known, STEP_BITS, receiver, sizeof receiver, frame, n, opened, sizeof opened, &m)
+                   == SFRAME_KID_UNKNOWN,
+               "another generation");
         known.generation--;
-        expect(follow(&known, STEP_BITS, receiver, sizeof receiver, frame, n, opened, sizeof opened, &m) == SFRAME_DONE && m == 5
-                   && memcmp(opened, BASE_KEY, 5) == 0,
+        expect(follow(&known, STEP_BITS, receiver, sizeof receiver, frame, n, opened, sizeof opened, &m) == SFRAME_DONE
+                   && m == 5 && memcmp(opened, BASE_KEY, 5) == 0,
                "the receiver follows");
-        expect(sframe_open(receiver, sizeof receiver, frame, n, NULL, 0, opened, sizeof opened, &m) == SFRAME_ALREADY_OPENED, "and has the key");
+        expect(sframe_open(receiver, sizeof receiver, frame, n, NULL, 0, opened, sizeof opened, &m)
+                   == SFRAME_ALREADY_OPENED,
+               "and has the key");
         answer = step_on(&sender, store, sizeof store);
         expect(sframe_seal(store, sizeof store, old, NULL, 0, BASE_KEY, 5, frame, sizeof frame, &n)
                    == (answer == SFRAME_DONE ? SFRAME_WRONG_ROLE : SFRAME_DONE),
                "the old key is retired, unless the step was refused");
     }
     expect(many == 1 << STEP_BITS, "as many steps as there are numbers");
-    expect(sframe_seal(store, sizeof store, sender.kid, NULL, 0, BASE_KEY, 5, frame, sizeof frame, &n) == SFRAME_DONE, "the last key is in force");
+    expect(sframe_seal(store, sizeof store, sender.kid, NULL, 0, BASE_KEY, 5, frame, sizeof frame, &n) == SFRAME_DONE,
+           "the last key is in force");
 }
 
-/* A group of three through forty epochs: whatever one seals the others open; a frame of an epoch that has ended is not opened. */
+/* A group of three through forty epochs: what one seals the others open, and no frame of an epoch that has ended. */
 static void epochs(void)
 {
     enum { MEMBERS = 3, EPOCHS = 40 };
@@ -476,11 +608,16 @@ static void epochs(void)
     for (uint64_t epoch = 0; epoch < EPOCHS; epoch++) {
         memset(base_key, (int)epoch + 1, sizeof base_key);
         for (uint64_t own = 0; own < MEMBERS; own++)
-            expect(epoch_begin(stores[own], sizeof stores[own], SUITE, epoch, MEMBERS, own, base_key, sizeof base_key, &kid[own]) == SFRAME_DONE, "an epoch begins");
+            expect(epoch_begin(stores[own], sizeof stores[own], SUITE, epoch, MEMBERS, own, base_key, sizeof base_key,
+                               &kid[own])
+                       == SFRAME_DONE,
+                   "an epoch begins");
         for (uint64_t own = 0; own < MEMBERS; own++) {
-            expect(sframe_seal(stores[own], sizeof stores[own], kid[own], NULL, 0, BASE_KEY, 5, frame, sizeof frame, &n) == SFRAME_DONE, "seal");
-            expect(sframe_group_parts(kid[own], INDEX_WIDTH, EPOCH_WIDTH, &context, &index, &low) == SFRAME_DONE && index == own
-                       && (context << EPOCH_WIDTH | low) == epoch,
+            expect(sframe_seal(stores[own], sizeof stores[own], kid[own], NULL, 0, BASE_KEY, 5, frame, sizeof frame, &n)
+                       == SFRAME_DONE,
+                   "seal");
+            expect(sframe_group_parts(kid[own], INDEX_WIDTH, EPOCH_WIDTH, &context, &index, &low) == SFRAME_DONE
+                       && index == own && (context << EPOCH_WIDTH | low) == epoch,
                    "the key number tells the sender and the epoch");
             for (uint64_t other = 0; other < MEMBERS; other++)
                 expect(sframe_open(stores[other], sizeof stores[other], frame, n, NULL, 0, opened, sizeof opened, &m)
@@ -489,9 +626,13 @@ static void epochs(void)
         }
         if (epoch > 0) {
             expect(epoch_end(stores[0], sizeof stores[0], epoch - 1, 0) == SFRAME_DONE, "an epoch ends");
-            expect(sframe_open(stores[0], sizeof stores[0], last, last_len, NULL, 0, opened, sizeof opened, &m) == SFRAME_KID_UNKNOWN, "its keys are gone");
+            expect(sframe_open(stores[0], sizeof stores[0], last, last_len, NULL, 0, opened, sizeof opened, &m)
+                       == SFRAME_KID_UNKNOWN,
+                   "its keys are gone");
         }
-        expect(sframe_seal(stores[1], sizeof stores[1], kid[1], NULL, 0, BASE_KEY, 5, last, sizeof last, &last_len) == SFRAME_DONE, "seal");
+        expect(sframe_seal(stores[1], sizeof stores[1], kid[1], NULL, 0, BASE_KEY, 5, last, sizeof last, &last_len)
+                   == SFRAME_DONE,
+               "seal");
     }
 }
 
@@ -506,7 +647,8 @@ __attribute__((noinline)) static void seal_and_wipe(void)
 {
     size_t n;
 
-    expect(sframe_seal(sealing, sizeof sealing, KID, NULL, 0, picture, 1200, sealed, sizeof sealed, &n) == SFRAME_DONE, "seal");
+    expect(sframe_seal(sealing, sizeof sealing, KID, NULL, 0, picture, 1200, sealed, sizeof sealed, &n) == SFRAME_DONE,
+           "seal");
     if (wipes)
         wipe_stack();
 }
@@ -555,10 +697,13 @@ static void *sender(void *nothing)
 static void threads(void)
 {
     pthread_t ids[THREADS];
+    pthread_attr_t small;
 
     make_with(shared.store, sizeof shared.store, KID, 1);
+    expect(pthread_attr_init(&small) == 0, "attributes of a thread");
+    (void)pthread_attr_setstacksize(&small, 16384); /* as the guide says; where the system wants more, it has more */
     for (int i = 0; i < THREADS; i++)
-        expect(pthread_create(&ids[i], NULL, sender, NULL) == 0, "a thread");
+        expect(pthread_create(&ids[i], &small, sender, NULL) == 0, "a thread");
     for (int i = 0; i < THREADS; i++)
         pthread_join(ids[i], NULL);
     for (size_t i = 0; i < sizeof seen; i++)
@@ -571,6 +716,7 @@ int main(int count, char **words)
     expect(count == 2, "the argument is a folder that is empty");
     for (size_t i = 0; i < sizeof picture; i++)
         picture[i] = (uint8_t)rand();
+    layout();
     raised_is_sealed();
     killed(words[1]);
     in_doubt(words[1]);

@@ -181,7 +181,9 @@ static void send_picture(const struct coded *coded, int bad, FILE *sealed)
 
     check(count <= CUT_MOST, "a picture is above 64 pieces");
     for (size_t piece = 0; piece < count; piece++) {
-        check(cut_seal(ward, sizeof ward, KID, coded->bytes, coded->length, piece, packet, sizeof packet, &length) == SFRAME_DONE, "seal");
+        check(cut_seal(ward, sizeof ward, KID, coded->bytes, coded->length, piece, packet, sizeof packet, &length)
+                  == SFRAME_DONE,
+              "seal");
         if (sealed != NULL)
             check(fwrite(packet, 1, length, sealed) == length, "the file for sealed packets");
         hand_over(packet, length, bad);
@@ -255,7 +257,8 @@ static AVFormatContext *open_in(const char *path, AVStream **stream)
     AVFormatContext *file = NULL;
     int at;
 
-    check(avformat_open_input(&file, path, NULL, NULL) == 0 && avformat_find_stream_info(file, NULL) >= 0, "the video cannot be read");
+    check(avformat_open_input(&file, path, NULL, NULL) == 0 && avformat_find_stream_info(file, NULL) >= 0,
+          "the video cannot be read");
     at = av_find_best_stream(file, AVMEDIA_TYPE_VIDEO, -1, -1, NULL, 0);
     check(at >= 0, "the file has no video");
     *stream = file->streams[at];
@@ -270,11 +273,13 @@ static AVFormatContext *open_out(const char *path, const AVStream *like)
 
     check(avformat_alloc_output_context2(&file, NULL, NULL, path) >= 0, "no format has the new file's ending");
     stream = avformat_new_stream(file, NULL);
-    check(stream != NULL && avcodec_parameters_copy(stream->codecpar, like->codecpar) >= 0, "the new file cannot be set up");
+    check(stream != NULL && avcodec_parameters_copy(stream->codecpar, like->codecpar) >= 0,
+          "the new file cannot be set up");
     if (like->codecpar->codec_id != AV_CODEC_ID_RAWVIDEO) /* where it names the form of the pixels */
         stream->codecpar->codec_tag = 0;
     stream->time_base = like->time_base;
-    check(avio_open(&file->pb, path, AVIO_FLAG_WRITE) >= 0 && avformat_write_header(file, NULL) >= 0, "the new file cannot be written");
+    check(avio_open(&file->pb, path, AVIO_FLAG_WRITE) >= 0 && avformat_write_header(file, NULL) >= 0,
+          "the new file cannot be written");
     return file;
 }
 
@@ -291,10 +296,14 @@ int main(int count, char **words)
     check(count >= 3 && count <= 5, "usage: video IN OUT [SEED [SEALED]]");
     check(packet != NULL && (count < 5 || sealed != NULL), "cannot begin");
     srand(seed);
-    check(sframe_make(ward, sizeof ward) == SFRAME_DONE && sframe_make(doctor, sizeof doctor) == SFRAME_DONE
-              && sframe_add_sending(ward, sizeof ward, KID, SFRAME_AES_256_GCM_SHA512_128, BASE_KEY, sizeof BASE_KEY - 1) == SFRAME_DONE
-              && sframe_add_receiving(doctor, sizeof doctor, KID, SFRAME_AES_256_GCM_SHA512_128, BASE_KEY, sizeof BASE_KEY - 1) == SFRAME_DONE,
-          "keys");
+    check(
+        sframe_make(ward, sizeof ward) == SFRAME_DONE && sframe_make(doctor, sizeof doctor) == SFRAME_DONE
+            && sframe_add_sending(ward, sizeof ward, KID, SFRAME_AES_256_GCM_SHA512_128, BASE_KEY, sizeof BASE_KEY - 1)
+                   == SFRAME_DONE
+            && sframe_add_receiving(doctor, sizeof doctor, KID, SFRAME_AES_256_GCM_SHA512_128, BASE_KEY,
+                                    sizeof BASE_KEY - 1)
+                   == SFRAME_DONE,
+        "keys");
 
     in = open_in(words[1], &stream);
     for (; av_read_frame(in, packet) == 0; av_packet_unref(packet)) {
@@ -324,9 +333,11 @@ int main(int count, char **words)
     for (size_t i = 0; i < whole.many; i++) {
         const struct coded *got = item(&whole, i), *was = item(&pictures, i);
 
-        check(got->bytes == NULL || (got->length == was->length && memcmp(got->bytes, was->bytes, was->length) == 0), "a picture is not the one that was sent");
+        check(got->bytes == NULL || (got->length == was->length && memcmp(got->bytes, was->bytes, was->length) == 0),
+              "a picture is not the one that was sent");
     }
-    printf("%zu pictures in %" PRIu64 " packets; %" PRIu64 " lost, %" PRIu64 " late, %" PRIu64 " repeated, %" PRIu64 " damaged copies; answers",
+    printf("%zu pictures in %" PRIu64 " packets; %" PRIu64 " lost, %" PRIu64 " late, %" PRIu64 " repeated, %" PRIu64
+           " damaged copies; answers",
            pictures.many, on_line.packets, on_line.lost, on_line.late, on_line.repeated, on_line.damaged);
     for (size_t i = 0; i < sizeof answers / sizeof *answers; i++)
         if (answers[i] > 0)
