@@ -1,3 +1,4 @@
+// SPDX-License-Identifier: MIT
 //! Why a run of a tool fails, and with which exit status.
 
 /// Defines `Failure` for a tool whose calls answer this type of refusal. A
