@@ -279,7 +279,7 @@ uint32_t sframe_open_near(uint8_t *store, size_t store_len, size_t place, const 
  *
  * The state is plain bytes of the caller's, at any address; they hold no pointer and may be moved. The first
  * SFRAME_STATE_SIZE of them count, and those behind stay as they were. Any bytes may be given as a state and get an
- * answer. Where the change request names none it is of our own choice: SFRAME_ROOM_SHORT for a state below
+ * answer. Some of these answers are of our own choice: SFRAME_ROOM_SHORT for a state below
  * SFRAME_STATE_SIZE bytes, as the last cause of both beginnings, and SFRAME_BAD_STATE in the other calls for a state
  * that is so short, belongs to the other kind of line or to no suite. A caller who passes a struct sframe_state along
  * its line meets none of these.
