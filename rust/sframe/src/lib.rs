@@ -33,6 +33,7 @@ mod group;
 mod header;
 mod limits;
 mod metadata;
+mod pieces;
 mod ratchet;
 #[allow(unsafe_code)]
 pub mod raw;
@@ -49,6 +50,7 @@ pub use limits::{
     MAX_RECORDS, MAX_STEPS, MIN_BASE_KEY, RECORD, WINDOW,
 };
 pub use metadata::Metadata;
+pub use pieces::{Checking, NotEnded, Sealing, STATE};
 pub use ratchet::{ratchet, ratchet_kid, ratchet_to_vec};
 pub use record::{Place, Record, State, Window};
 pub use refusal::Refusal;
