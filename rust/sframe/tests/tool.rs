@@ -2,6 +2,7 @@
 
 mod tool {
     pub mod folder;
+    mod pieces;
     mod refusals;
     mod runs;
     mod together;

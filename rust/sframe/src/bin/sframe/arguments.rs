@@ -2,6 +2,7 @@
 
 use crate::failure::Failure;
 use crate::input::Place;
+use crate::pieces::{Check, SealPieces};
 use sframe::{Ctr, EpochBits, GroupParts, GroupWidths, Kid, Role};
 use std::ffi::OsString;
 use std::path::PathBuf;
@@ -40,6 +41,8 @@ pub enum Command {
         store: PathBuf,
         streams: Streams,
     },
+    SealPieces(SealPieces),
+    Check(Check),
     Report {
         store: PathBuf,
         kid: Kid,
@@ -132,6 +135,8 @@ impl Command {
                 store: words.store()?,
                 streams: words.streams()?,
             },
+            "seal-pieces" => Command::SealPieces(words.seal_pieces()?),
+            "check" => Command::Check(words.check()?),
             "report" => Command::Report {
                 store: words.store()?,
                 kid: Kid(words.number("--kid")?),
@@ -170,7 +175,7 @@ impl Command {
 }
 
 /// The options that take a value, and those that take none.
-const VALUES: [&str; 20] = [
+const VALUES: [&str; 21] = [
     "--keys",
     "--kid",
     "--suite",
@@ -178,6 +183,7 @@ const VALUES: [&str; 20] = [
     "--in",
     "--out",
     "--metadata",
+    "--length",
     "--log",
     "--ctr",
     "--steps",
@@ -256,8 +262,14 @@ impl Words {
 
     /// Where the result stands in what is written; 0 unless it is given.
     fn offset(&mut self) -> Result<u64, Failure> {
-        let value = self.value("--offset");
-        value.map_or(Ok(0), |value| Self::read_number("--offset", &value))
+        Ok(self.optional_number("--offset")?.unwrap_or(0))
+    }
+
+    fn optional_number(&mut self, name: &str) -> Result<Option<u64>, Failure> {
+        let value = self.value(name);
+        value
+            .map(|value| Self::read_number(name, &value))
+            .transpose()
     }
 
     fn read_number(name: &str, value: &OsString) -> Result<u64, Failure> {
@@ -287,18 +299,53 @@ impl Words {
     }
 
     fn streams(&mut self) -> Result<Streams, Failure> {
-        let standard = |value: Option<OsString>| value.map_or(Place::Standard, Place::from);
-        let streams = Streams {
-            input: standard(self.value("--in")),
-            output: standard(self.value("--out")),
-            metadata: self.value("--metadata").map(Place::from),
+        let (input, metadata) = self.inputs()?;
+        Ok(Streams {
+            input,
+            output: self.value("--out").map_or(Place::Standard, Place::from),
+            metadata,
             hex: self.flag("--hex"),
-        };
-        if streams.input == Place::Standard && streams.metadata == Some(Place::Standard) {
+        })
+    }
+
+    fn inputs(&mut self) -> Result<(Place, Option<Place>), Failure> {
+        let input = self.value("--in").map_or(Place::Standard, Place::from);
+        let metadata = self.value("--metadata").map(Place::from);
+        if input == Place::Standard && metadata == Some(Place::Standard) {
             let text = "--in and --metadata cannot both be standard input";
             return Err(Failure::usage(text));
         }
-        Ok(streams)
+        Ok((input, metadata))
+    }
+
+    fn seal_pieces(&mut self) -> Result<SealPieces, Failure> {
+        let (input, metadata) = self.inputs()?;
+        Ok(SealPieces {
+            store: self.store()?,
+            kid: Kid(self.number("--kid")?),
+            input,
+            output: self.output_file()?,
+            metadata,
+            length: self.optional_number("--length")?,
+            log: self.log()?,
+        })
+    }
+
+    fn check(&mut self) -> Result<Check, Failure> {
+        let (input, metadata) = self.inputs()?;
+        Ok(Check {
+            store: self.store()?,
+            input,
+            metadata,
+            length: self.optional_number("--length")?,
+        })
+    }
+
+    fn output_file(&mut self) -> Result<PathBuf, Failure> {
+        match self.required("--out")?.into() {
+            Place::File(path) => Ok(path),
+            Place::Standard => Err(Failure::usage("--out must be a file")),
+        }
     }
 
     fn log(&mut self) -> Result<Option<PathBuf>, Failure> {
@@ -325,10 +372,7 @@ impl Words {
 
     /// The key goes to a file and never to standard output.
     fn ratchet(&mut self) -> Result<Command, Failure> {
-        let output = match self.required("--out")?.into() {
-            Place::File(path) => path,
-            Place::Standard => return Err(Failure::usage("--out must be a file")),
-        };
+        let output = self.output_file()?;
         Ok(Command::Ratchet {
             suite: self.number("--suite")?,
             key: self.required("--key")?.into(),

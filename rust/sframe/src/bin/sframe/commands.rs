@@ -7,6 +7,7 @@ use crate::help::HELP;
 use crate::hex;
 use crate::input::Place;
 use crate::log_file::LogFile;
+use crate::pieces;
 use crate::store_file::StoreFile;
 use sframe::{
     frame_room, group_kid, group_parts, ratchet_kid, raw, read_header, write_header_at, Ctr,
@@ -61,6 +62,8 @@ pub fn run(command: Command, disk: &mut impl Disk, out: &mut impl Write) -> Resu
             let plaintext = open(disk, &store, &streams)?;
             streams.output.write(&plaintext, out)
         }
+        Command::SealPieces(command) => pieces::seal(&command, disk),
+        Command::Check(command) => pieces::check(&command, disk, out),
         Command::Report { store, kid } => {
             let bytes = StoreFile::at(&store)?.read(disk)?;
             let count = StoreView::over(&bytes).report(kid)?;
@@ -133,7 +136,7 @@ fn make(disk: &mut impl Disk, path: &Path, keys: u64) -> Result<(), Failure> {
 }
 
 /// Makes a call that changes the store, and keeps the store if it is done.
-fn change<T>(
+pub fn change<T>(
     disk: &mut impl Disk,
     path: &Path,
     call: impl FnOnce(&mut [u8]) -> Result<T, Refusal>,
@@ -229,7 +232,7 @@ fn seal(
 ) -> Result<Packet, Failure> {
     spare_store(path, &streams.output)?;
     let plaintext = streams.input.read(MAX_PLAINTEXT)?;
-    let metadata = read_metadata(streams)?;
+    let metadata = read_metadata(&streams.metadata)?;
     let (mut room, offset) = room_at(offset, MAX_FRAME);
     let length = change(disk, path, |bytes| {
         Store::over(bytes).seal_at(kid, Metadata(&metadata), &plaintext, &mut room, offset)
@@ -279,7 +282,7 @@ fn give_out(bytes: &[u8], streams: &Streams, out: &mut impl Write) -> Result<(),
 fn open(disk: &mut impl Disk, path: &Path, streams: &Streams) -> Result<Vec<u8>, Failure> {
     spare_store(path, &streams.output)?;
     let frame = read_frame(&streams.input, streams.hex)?;
-    let metadata = read_metadata(streams)?;
+    let metadata = read_metadata(&streams.metadata)?;
     change(disk, path, |bytes| {
         Store::over(bytes).open_to_vec(&frame, Metadata(&metadata))
     })
@@ -318,7 +321,7 @@ fn walk(
 }
 
 /// Refuses to write the result over the store.
-fn spare_store(store: &Path, output: &Place) -> Result<(), Failure> {
+pub fn spare_store(store: &Path, output: &Place) -> Result<(), Failure> {
     match output {
         Place::File(path) if StoreFile::at(store)?.is_at(path) => {
             Err(Failure::usage("--out is the store itself"))
@@ -328,7 +331,7 @@ fn spare_store(store: &Path, output: &Place) -> Result<(), Failure> {
 }
 
 /// Refuses a log that is the store, or that the frame would be written over.
-fn spare_log(log: &LogFile, store: &Path, output: &Place) -> Result<(), Failure> {
+pub fn spare_log(log: &LogFile, store: &Path, output: &Place) -> Result<(), Failure> {
     let over_log = match output {
         Place::File(path) => log.is_at(path),
         Place::Standard => false,
@@ -355,13 +358,13 @@ fn read_frame(place: &Place, hex: bool) -> Result<Vec<u8>, Failure> {
     }
 }
 
-fn read_metadata(streams: &Streams) -> Result<Vec<u8>, Failure> {
-    match &streams.metadata {
+pub fn read_metadata(metadata: &Option<Place>) -> Result<Vec<u8>, Failure> {
+    match metadata {
         Some(place) => place.read(MAX_METADATA),
         None => Ok(vec![]),
     }
 }
 
-fn print(out: &mut impl Write, text: &str) -> Result<(), Failure> {
+pub fn print(out: &mut impl Write, text: &str) -> Result<(), Failure> {
     Place::Standard.write(text.as_bytes(), out)
 }

@@ -42,6 +42,20 @@ once.
       more behind the highest opened. A frame counts as opened once the store is
       on the disk, which is before the plaintext is given out.
 
+  sframe seal-pieces STORE --kid K --out FILE [--in FILE] [--length N]
+              [--metadata FILE] [--log LOG]
+      Seals a plaintext of N bytes in pieces, so that it is never in memory as a
+      whole; without --length it has the size of the input file. The frame is
+      the one that seal makes. The counter is used, and logged, before anything
+      is read. An input that ends early or runs over is refused (16), leaves no
+      output, and has used the counter.
+
+  sframe check STORE [--in FILE] [--length N] [--metadata FILE]
+      Checks in pieces whether a frame is genuine, and shows nothing of the
+      plaintext. N is its length between header and tag; without --length it
+      follows from the size of the input file. It does not ask whether the frame
+      was opened before, and changes no store.
+
   sframe report STORE --kid K
       Says how many of the last 64 counters of a receiving key were opened.
 
@@ -78,10 +92,10 @@ and --out are when they are left out. Numbers are decimal, or hex after 0x.
 
 A store is replaced as a whole or not at all, and a new counter is on the disk
 before the frame under the old one is given out. STORE.lock keeps two runs from
-changing one store at the same time; list and report change nothing and take no
-lock. That file stays: do not remove it while a run may use the store. No store
-may be named like STORE.lock or .STORE.new, and a store that has several hard
-links is not changed.
+changing one store at the same time; list, report and check change nothing and
+take no lock. That file stays: do not remove it while a run may use the store.
+No store may be named like STORE.lock or .STORE.new, and a store that has
+several hard links is not changed.
 
 Frames are no longer safe once a key has used a counter twice. That happens with
 a copy of a store, with a store put back as it was before, say from a backup,
@@ -90,7 +104,7 @@ For receiving, such a store opens frames again that were opened before. A store
 of an earlier version, whose records have 80 bytes or do not stand by rising key
 number, is refused (1): make a new one, and give it new keys.
 
-Exit status: 0 done; 1 to 15, 17 and 20 to 23 refused, with these causes:
+Exit status: 0 done; 1 to 17 and 20 to 23 refused, with these causes:
    1  the store is not sound, or not      9  plaintext above 32768 bytes, or
       1 to 1024 keys in making               metadata above 1024
    2  no such suite                      10  header cut short
@@ -100,7 +114,9 @@ Exit status: 0 done; 1 to 15, 17 and 20 to 23 refused, with these causes:
    6  key number not in the store        14  opened before
    7  role does not allow it             15  64 counters or more too old
    8  the key has no counter left        20  not 1 to 16 bits of a step, or a
-  17  suite 3 is not for sending             key number past 64 bits
+  16  input shorter or longer than           key number past 64 bits
+      was announced
+  17  suite 3 is not for sending
   21  more than 64 steps                 23  widths above 64 together, or a
   22  index or epoch bits past their         key number past 64 bits
       width

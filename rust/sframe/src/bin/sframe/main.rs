@@ -8,6 +8,7 @@ mod help;
 mod hex;
 mod input;
 mod log_file;
+mod pieces;
 mod store_file;
 #[cfg(test)]
 mod tests;
