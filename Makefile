@@ -1,6 +1,6 @@
 # `make demo` shows the main job, `make test` is the whole gate, `make lint` its quick part with no proof. `make pins` writes
 # the pinned files anew: promises, floors, and from the last run's logs the facts of the must-fail edits. `make memcheck` runs
-# the C example and a short comparison under valgrind, `make secrets` tests there that no address and no branch depends on a
+# the C examples and a short comparison under valgrind, `make secrets` tests there that no address and no branch depends on a
 # secret; both need the static library that demo or test builds. `make arm64` builds the library for 64-bit Arm and compares
 # that under qemu.
 .PHONY: demo test lint pins memcheck secrets arm64
