@@ -42,6 +42,22 @@
 #error "moq: the processor must be little-endian"
 #endif
 
+/*
+ * The version of this header, by semantic versioning: below 1.0 a minor version may change a call.
+ */
+#define MOQ_VERSION_MAJOR 0
+#define MOQ_VERSION_MINOR 2
+#define MOQ_VERSION_PATCH 0
+#define MOQ_VERSION "0.2.0"
+#define MOQ_VERSION_NUMBER (10000 * MOQ_VERSION_MAJOR + 100 * MOQ_VERSION_MINOR + MOQ_VERSION_PATCH)
+
+/* The compiler warns where an answer is not looked at. */
+#if defined(__GNUC__)
+#define MOQ_NODISCARD __attribute__((warn_unused_result))
+#else
+#define MOQ_NODISCARD
+#endif
+
 #ifdef __cplusplus
 extern "C" {
 #endif
@@ -83,7 +99,7 @@ enum moq_answer {
 
 /* The most tracks of a store, and the bytes of a store for so many tracks, 1 to MOQ_MAX_TRACKS. */
 #define MOQ_MAX_TRACKS 16
-#define MOQ_STORE_SIZE(tracks) ((size_t)344 * (tracks))
+#define MOQ_STORE_SIZE(tracks) (UINT64_C(344) * (tracks))
 
 /* The limits of base keys, names, plaintext and properties, in bytes. */
 #define MOQ_MIN_BASE_KEY 16
@@ -96,13 +112,14 @@ enum moq_answer {
 #define MOQ_MAX_TAG 16
 
 /* A room that is enough for the object of a plaintext of so many bytes, under every suite. */
-#define MOQ_OBJECT_ROOM(plaintext_len) ((size_t)(plaintext_len) + MOQ_MAX_TAG)
+#define MOQ_OBJECT_ROOM(plaintext_len) (UINT64_C(0) + MOQ_MAX_TAG + (plaintext_len))
 
 /*
  * Makes a track store with no tracks: all of its bytes become zero. What it held before is gone.
  *
  * MOQ_DONE, or MOQ_STORE_NOT_SOUND where store_len is not MOQ_STORE_SIZE of 1 to MOQ_MAX_TRACKS.
  */
+MOQ_NODISCARD
 uint32_t moq_make(uint8_t *store, size_t store_len);
 
 /*
@@ -113,12 +130,14 @@ uint32_t moq_make(uint8_t *store, size_t store_len);
  * MOQ_DONE, or the first of MOQ_STORE_NOT_SOUND, MOQ_SUITE_UNKNOWN, MOQ_SENDING_BARRED,
  * MOQ_BASE_KEY_LENGTH, MOQ_TOO_LONG, MOQ_TRACK_HELD, MOQ_STORE_FULL that holds.
  */
+MOQ_NODISCARD
 uint32_t moq_add_sending(uint8_t *store, size_t store_len, const uint8_t *name, size_t name_len, uint64_t key_id,
                          uint64_t suite, const uint8_t *base_key, size_t base_key_len);
 
 /*
  * Adds a track for opening, of any suite. As moq_add_sending in all else.
  */
+MOQ_NODISCARD
 uint32_t moq_add_receiving(uint8_t *store, size_t store_len, const uint8_t *name, size_t name_len, uint64_t key_id,
                            uint64_t suite, const uint8_t *base_key, size_t base_key_len);
 
@@ -128,6 +147,7 @@ uint32_t moq_add_receiving(uint8_t *store, size_t store_len, const uint8_t *name
  *
  * MOQ_DONE, or the first of MOQ_STORE_NOT_SOUND, MOQ_TRACK_UNKNOWN, MOQ_WRONG_ROLE that holds.
  */
+MOQ_NODISCARD
 uint32_t moq_remove(uint8_t *store, size_t store_len, const uint8_t *name, size_t name_len, uint64_t key_id);
 
 /*
@@ -141,6 +161,7 @@ uint32_t moq_remove(uint8_t *store, size_t store_len, const uint8_t *name, size_
  * MOQ_PAIR_NOT_ABOVE, MOQ_TOO_LONG, MOQ_ROOM_SHORT that holds: *length is 0, no pair is used up, and store
  * and room stay as they were.
  */
+MOQ_NODISCARD
 uint32_t moq_seal(uint8_t *store, size_t store_len, const uint8_t *name, size_t name_len, uint64_t key_id,
                   uint64_t group, uint64_t object, const uint8_t *properties, size_t properties_len,
                   const uint8_t *plaintext, size_t plaintext_len, uint8_t *out, size_t out_len, size_t *length);
@@ -156,9 +177,51 @@ uint32_t moq_seal(uint8_t *store, size_t store_len, const uint8_t *name, size_t 
  * MOQ_OBJECT_SHORT, MOQ_TOO_LONG, MOQ_ROOM_SHORT, MOQ_TAG_DIFFERS that holds: *length is 0 and the room
  * stays as it was.
  */
+MOQ_NODISCARD
 uint32_t moq_open(const uint8_t *store, size_t store_len, const uint8_t *name, size_t name_len, uint64_t key_id,
                   uint64_t group, uint64_t object, const uint8_t *properties, size_t properties_len,
                   const uint8_t *sealed, size_t sealed_len, uint8_t *out, size_t out_len, size_t *length);
+
+/*
+ * What an answer says, as a sentence for a log; "unknown answer" where the number is none of enum moq_answer.
+ */
+static inline const char *moq_answer_text(uint32_t answer)
+{
+    switch (answer) {
+    case MOQ_DONE:
+        return "done";
+    case MOQ_STORE_NOT_SOUND:
+        return "the track store is not sound";
+    case MOQ_SUITE_UNKNOWN:
+        return "there is no such cipher suite: they are numbered 1 to 5";
+    case MOQ_BASE_KEY_LENGTH:
+        return "the base key must have 16 to 64 bytes";
+    case MOQ_TRACK_HELD:
+        return "the store has this track and Key ID already";
+    case MOQ_STORE_FULL:
+        return "the store has no empty record left";
+    case MOQ_TRACK_UNKNOWN:
+        return "the store does not have this track and Key ID";
+    case MOQ_WRONG_ROLE:
+        return "the role of this track does not allow the call";
+    case MOQ_TOO_LONG:
+        return "the plaintext, the properties or the name is too long";
+    case MOQ_OBJECT_SHORT:
+        return "the object is too short to hold a tag";
+    case MOQ_ROOM_SHORT:
+        return "the room is too short for the result";
+    case MOQ_TAG_DIFFERS:
+        return "the tag does not match";
+    case MOQ_SENDING_BARRED:
+        return "no track is added for sending with suite 3: its tags have 4 bytes";
+    case MOQ_PAIR_NOT_ABOVE:
+        return "the pair is not above the last one sealed";
+    case MOQ_OBJECT_TOO_LARGE:
+        return "the object number has more than 32 bits";
+    default:
+        return "unknown answer";
+    }
+}
 
 #ifdef __cplusplus
 }

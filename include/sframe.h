@@ -51,6 +51,23 @@
 #error "sframe: the processor must be little-endian"
 #endif
 
+/*
+ * The version of this header, by semantic versioning: below 1.0 a minor version may change a call.
+ * sframe_version tells the archive's own.
+ */
+#define SFRAME_VERSION_MAJOR 0
+#define SFRAME_VERSION_MINOR 2
+#define SFRAME_VERSION_PATCH 0
+#define SFRAME_VERSION "0.2.0"
+#define SFRAME_VERSION_NUMBER (10000 * SFRAME_VERSION_MAJOR + 100 * SFRAME_VERSION_MINOR + SFRAME_VERSION_PATCH)
+
+/* The compiler warns where an answer is not looked at. */
+#if defined(__GNUC__)
+#define SFRAME_NODISCARD __attribute__((warn_unused_result))
+#else
+#define SFRAME_NODISCARD
+#endif
+
 #ifdef __cplusplus
 extern "C" {
 #endif
@@ -122,7 +139,7 @@ enum sframe_suite {
 
 /* The most keys of a store, and the bytes of a store for so many keys, 1 to SFRAME_MAX_KEYS. */
 #define SFRAME_MAX_KEYS 1024
-#define SFRAME_STORE_SIZE(keys) ((size_t)96 * (keys))
+#define SFRAME_STORE_SIZE(keys) (UINT64_C(96) * (keys))
 
 /* The limits of base keys, plaintext and metadata, in bytes. */
 #define SFRAME_MIN_BASE_KEY 16
@@ -142,7 +159,7 @@ enum sframe_suite {
 #define SFRAME_MAX_RATCHET_BITS 16
 
 /* A room that is enough for the frame of a plaintext of so many bytes, under every suite. */
-#define SFRAME_FRAME_ROOM(plaintext_len) ((size_t)(plaintext_len) + SFRAME_MAX_HEADER + SFRAME_MAX_TAG)
+#define SFRAME_FRAME_ROOM(plaintext_len) (UINT64_C(0) + SFRAME_MAX_HEADER + SFRAME_MAX_TAG + (plaintext_len))
 
 /*
  * Makes a store with no keys: all of its bytes become zero. What it held before is gone.
@@ -150,6 +167,7 @@ enum sframe_suite {
  * SFRAME_DONE, or SFRAME_STORE_NOT_SOUND where store_len is not SFRAME_STORE_SIZE of 1 to
  * SFRAME_MAX_KEYS.
  */
+SFRAME_NODISCARD
 uint32_t sframe_make(uint8_t *store, size_t store_len);
 
 /*
@@ -164,12 +182,14 @@ uint32_t sframe_make(uint8_t *store, size_t store_len);
  * SFRAME_DONE, or the first of SFRAME_STORE_NOT_SOUND, SFRAME_SUITE_UNKNOWN, SFRAME_SENDING_BARRED,
  * SFRAME_BASE_KEY_LENGTH, SFRAME_KID_HELD, SFRAME_STORE_FULL that holds.
  */
+SFRAME_NODISCARD
 uint32_t sframe_add_sending(uint8_t *store, size_t store_len, uint64_t kid, uint64_t suite, const uint8_t *base_key,
                             size_t base_key_len);
 
 /*
  * Adds a key for opening, of any suite; it has opened nothing yet. As sframe_add_sending in all else.
  */
+SFRAME_NODISCARD
 uint32_t sframe_add_receiving(uint8_t *store, size_t store_len, uint64_t kid, uint64_t suite, const uint8_t *base_key,
                               size_t base_key_len);
 
@@ -182,11 +202,13 @@ uint32_t sframe_add_receiving(uint8_t *store, size_t store_len, uint64_t kid, ui
  * SFRAME_DONE, or the first of SFRAME_STORE_NOT_SOUND, SFRAME_KID_UNKNOWN, SFRAME_WRONG_ROLE that
  * holds.
  */
+SFRAME_NODISCARD
 uint32_t sframe_remove(uint8_t *store, size_t store_len, uint64_t kid);
 
 /*
  * Removes a key as sframe_remove does, and looks for its record at place first.
  */
+SFRAME_NODISCARD
 uint32_t sframe_remove_near(uint8_t *store, size_t store_len, uint64_t kid, size_t place);
 
 /*
@@ -202,6 +224,7 @@ uint32_t sframe_remove_near(uint8_t *store, size_t store_len, uint64_t kid, size
  * SFRAME_DONE, also where there are none; or the first of SFRAME_STORE_NOT_SOUND, SFRAME_GROUP_KID_TOO_LONG
  * (epoch_width is above 64), SFRAME_GROUP_PART_TOO_LARGE (epoch_bits is 2^epoch_width or more) that holds.
  */
+SFRAME_NODISCARD
 uint32_t sframe_change_epoch(uint8_t *store, size_t store_len, uint64_t epoch_width, uint64_t epoch_bits);
 
 /*
@@ -210,6 +233,7 @@ uint32_t sframe_change_epoch(uint8_t *store, size_t store_len, uint64_t epoch_wi
  * SFRAME_DONE: *place is the number of the record, from 0.
  * Else the first of SFRAME_STORE_NOT_SOUND, SFRAME_KID_UNKNOWN that holds: *place is 0.
  */
+SFRAME_NODISCARD
 uint32_t sframe_find(const uint8_t *store, size_t store_len, uint64_t kid, size_t *place);
 
 /*
@@ -224,6 +248,7 @@ uint32_t sframe_find(const uint8_t *store, size_t store_len, uint64_t kid, size_
  * SFRAME_COUNTER_SPENT, SFRAME_TOO_LONG, SFRAME_ROOM_SHORT that holds: *length is 0, no counter is
  * used up, and store and room stay as they were.
  */
+SFRAME_NODISCARD
 uint32_t sframe_seal(uint8_t *store, size_t store_len, uint64_t kid, const uint8_t *metadata, size_t metadata_len,
                      const uint8_t *plaintext, size_t plaintext_len, uint8_t *out, size_t out_len, size_t *length);
 
@@ -233,6 +258,7 @@ uint32_t sframe_seal(uint8_t *store, size_t store_len, uint64_t kid, const uint8
  * SFRAME_ROOM_SHORT holds where out_len is less than offset and frame together, which is so too where the
  * offset lies past the end; any offset may be given. Offset 0 is sframe_seal.
  */
+SFRAME_NODISCARD
 uint32_t sframe_seal_at(uint8_t *store, size_t store_len, uint64_t kid, const uint8_t *metadata, size_t metadata_len,
                         const uint8_t *plaintext, size_t plaintext_len, uint8_t *out, size_t out_len, size_t offset,
                         size_t *length);
@@ -240,6 +266,7 @@ uint32_t sframe_seal_at(uint8_t *store, size_t store_len, uint64_t kid, const ui
 /*
  * Seals as sframe_seal_at does, and looks for the record of kid at place first.
  */
+SFRAME_NODISCARD
 uint32_t sframe_seal_near(uint8_t *store, size_t store_len, uint64_t kid, size_t place, const uint8_t *metadata,
                           size_t metadata_len, const uint8_t *plaintext, size_t plaintext_len, uint8_t *out,
                           size_t out_len, size_t offset, size_t *length);
@@ -259,12 +286,14 @@ uint32_t sframe_seal_near(uint8_t *store, size_t store_len, uint64_t kid, size_t
  * SFRAME_WRONG_ROLE, SFRAME_FRAME_SHORT, SFRAME_TOO_LONG, SFRAME_ROOM_SHORT, SFRAME_ALREADY_OPENED,
  * SFRAME_TOO_OLD, SFRAME_TAG_DIFFERS that holds: *length is 0, and store and room stay as they were.
  */
+SFRAME_NODISCARD
 uint32_t sframe_open(uint8_t *store, size_t store_len, const uint8_t *frame, size_t frame_len,
                      const uint8_t *metadata, size_t metadata_len, uint8_t *out, size_t out_len, size_t *length);
 
 /*
  * Opens as sframe_open does, and looks for the record of the frame's key number at place first.
  */
+SFRAME_NODISCARD
 uint32_t sframe_open_near(uint8_t *store, size_t store_len, size_t place, const uint8_t *frame, size_t frame_len,
                           const uint8_t *metadata, size_t metadata_len, uint8_t *out, size_t out_len, size_t *length);
 
@@ -301,6 +330,7 @@ struct sframe_state {
  * SFRAME_TOO_LONG (plaintext_len or metadata_len), SFRAME_ROOM_SHORT that holds: *length is 0, no counter is used up,
  * and store, state and room stay as they were.
  */
+SFRAME_NODISCARD
 uint32_t sframe_seal_begin(uint8_t *store, size_t store_len, uint64_t kid, const uint8_t *metadata,
                            size_t metadata_len, uint64_t plaintext_len, uint8_t *state, size_t state_len, uint8_t *out,
                            size_t out_len, size_t *length);
@@ -312,6 +342,7 @@ uint32_t sframe_seal_begin(uint8_t *store, size_t store_len, uint64_t kid, const
  * Else the first of SFRAME_BAD_STATE, SFRAME_ROOM_SHORT that holds: *length is 0, state and room stay as they were, and
  * the line can go on.
  */
+SFRAME_NODISCARD
 uint32_t sframe_seal_piece(uint8_t *state, size_t state_len, const uint8_t *piece, size_t piece_len, uint8_t *out,
                            size_t out_len, size_t *length);
 
@@ -323,6 +354,7 @@ uint32_t sframe_seal_piece(uint8_t *state, size_t state_len, const uint8_t *piec
  * Else the first of SFRAME_BAD_STATE, SFRAME_ROOM_SHORT that holds: *length is 0, the room stays as it was, and the
  * line can go on.
  */
+SFRAME_NODISCARD
 uint32_t sframe_seal_end(const uint8_t *state, size_t state_len, uint8_t *out, size_t out_len, size_t *length);
 
 /*
@@ -338,6 +370,7 @@ uint32_t sframe_seal_end(const uint8_t *state, size_t state_len, uint8_t *out, s
  * SFRAME_TOO_LONG (ciphertext_len or metadata_len), SFRAME_ROOM_SHORT (the state alone) that holds: the state stays as
  * it was.
  */
+SFRAME_NODISCARD
 uint32_t sframe_check_begin(const uint8_t *store, size_t store_len, const uint8_t *header, size_t header_len,
                             const uint8_t *metadata, size_t metadata_len, uint64_t ciphertext_len, uint8_t *state,
                             size_t state_len);
@@ -347,6 +380,7 @@ uint32_t sframe_check_begin(const uint8_t *store, size_t store_len, const uint8_
  *
  * SFRAME_DONE, or SFRAME_BAD_STATE: the state stays as it was, and the line can go on.
  */
+SFRAME_NODISCARD
 uint32_t sframe_check_piece(uint8_t *state, size_t state_len, const uint8_t *piece, size_t piece_len);
 
 /*
@@ -356,6 +390,7 @@ uint32_t sframe_check_piece(uint8_t *state, size_t state_len, const uint8_t *pie
  * Else the first of SFRAME_BAD_STATE, SFRAME_FRAME_SHORT (tag_len is not the length of the suite's tags, be it longer),
  * SFRAME_TAG_DIFFERS that holds.
  */
+SFRAME_NODISCARD
 uint32_t sframe_check_end(const uint8_t *state, size_t state_len, const uint8_t *tag, size_t tag_len);
 
 /*
@@ -366,6 +401,7 @@ uint32_t sframe_check_end(const uint8_t *state, size_t state_len, const uint8_t 
  * Else the first of SFRAME_STORE_NOT_SOUND, SFRAME_KID_UNKNOWN, SFRAME_WRONG_ROLE that holds: *count
  * is 0.
  */
+SFRAME_NODISCARD
 uint32_t sframe_report(const uint8_t *store, size_t store_len, uint64_t kid, uint64_t *count);
 
 /*
@@ -374,6 +410,7 @@ uint32_t sframe_report(const uint8_t *store, size_t store_len, uint64_t kid, uin
  * SFRAME_DONE: *length is the header's length, 1 to SFRAME_MAX_HEADER; the room beyond it stays as it was.
  * SFRAME_ROOM_SHORT: out_len is less than the header's length; *length is 0 and the room stays as it was.
  */
+SFRAME_NODISCARD
 uint32_t sframe_write_header(uint64_t kid, uint64_t ctr, uint8_t *out, size_t out_len, size_t *length);
 
 /*
@@ -382,15 +419,20 @@ uint32_t sframe_write_header(uint64_t kid, uint64_t ctr, uint8_t *out, size_t ou
  * SFRAME_DONE: *length is the header's length, without the offset; the room before it and beyond it stays as it was.
  * SFRAME_ROOM_SHORT: out_len is less than offset and header together; *length is 0 and the room stays as it was.
  */
+SFRAME_NODISCARD
 uint32_t sframe_write_header_at(uint64_t kid, uint64_t ctr, uint8_t *out, size_t out_len, size_t offset,
                                 size_t *length);
 
 /*
  * Reads the header at the front of the bytes, whatever follows it. A number may stand in more bytes than it needs.
  *
+ * Given a frame, it tells whose it is without a key, say to a server on the way: its key number, its counter, and by
+ * the length where ciphertext and tag begin. Nothing of it is authenticated; only sframe_open does that.
+ *
  * SFRAME_DONE: *kid, *ctr and *length are the header's two numbers and its length.
  * SFRAME_HEADER_INVALID: the bytes end before the header does; *kid, *ctr and *length are 0.
  */
+SFRAME_NODISCARD
 uint32_t sframe_read_header(const uint8_t *bytes, size_t bytes_len, uint64_t *kid, uint64_t *ctr, size_t *length);
 
 /*
@@ -404,6 +446,7 @@ uint32_t sframe_read_header(const uint8_t *bytes, size_t bytes_len, uint64_t *ki
  * Else the first of SFRAME_SUITE_UNKNOWN, SFRAME_BASE_KEY_LENGTH, SFRAME_TOO_MANY_STEPS,
  * SFRAME_ROOM_SHORT that holds: *length is 0 and the room stays as it was.
  */
+SFRAME_NODISCARD
 uint32_t sframe_ratchet(uint64_t suite, const uint8_t *base_key, size_t base_key_len, uint64_t steps, uint8_t *out,
                         size_t out_len, size_t *length);
 
@@ -416,6 +459,7 @@ uint32_t sframe_ratchet(uint64_t suite, const uint8_t *base_key, size_t base_key
  * SFRAME_RATCHET_KID_INVALID: bits is not 1 to SFRAME_MAX_RATCHET_BITS, or that number is 2^64 or more;
  * *kid is 0.
  */
+SFRAME_NODISCARD
 uint32_t sframe_ratchet_kid(uint64_t generation, uint64_t step, uint64_t bits, uint64_t *kid);
 
 /*
@@ -428,6 +472,7 @@ uint32_t sframe_ratchet_kid(uint64_t generation, uint64_t step, uint64_t bits, u
  * SFRAME_GROUP_PART_TOO_LARGE, where index is 2^index_width or more; SFRAME_GROUP_KID_TOO_LONG, where that
  * number is 2^64 or more. *kid is 0 then.
  */
+SFRAME_NODISCARD
 uint32_t sframe_group_kid(uint64_t context, uint64_t index, uint64_t epoch, uint64_t index_width,
                           uint64_t epoch_width, uint64_t *kid);
 
@@ -437,8 +482,71 @@ uint32_t sframe_group_kid(uint64_t context, uint64_t index, uint64_t epoch, uint
  * SFRAME_DONE: *context, *index and *epoch are the three parts.
  * SFRAME_GROUP_KID_TOO_LONG: the widths are above 64 together; the three are 0.
  */
+SFRAME_NODISCARD
 uint32_t sframe_group_parts(uint64_t kid, uint64_t index_width, uint64_t epoch_width, uint64_t *context,
                             uint64_t *index, uint64_t *epoch);
+
+/*
+ * The version of the archive, as SFRAME_VERSION_NUMBER is that of this header: where the two differ, archive and
+ * header are not of one release.
+ */
+SFRAME_NODISCARD
+uint32_t sframe_version(void);
+
+/*
+ * What an answer says, as a sentence for a log; "unknown answer" where the number is none of enum sframe_answer.
+ */
+static inline const char *sframe_answer_text(uint32_t answer)
+{
+    switch (answer) {
+    case SFRAME_DONE:
+        return "done";
+    case SFRAME_STORE_NOT_SOUND:
+        return "the store is not sound";
+    case SFRAME_SUITE_UNKNOWN:
+        return "there is no such cipher suite: they are numbered 1 to 5";
+    case SFRAME_BASE_KEY_LENGTH:
+        return "the base key must have 16 to 64 bytes";
+    case SFRAME_KID_HELD:
+        return "the store has this key number already";
+    case SFRAME_STORE_FULL:
+        return "the store has no empty record left";
+    case SFRAME_KID_UNKNOWN:
+        return "the store does not have this key number";
+    case SFRAME_WRONG_ROLE:
+        return "the role of this key number does not allow the call";
+    case SFRAME_COUNTER_SPENT:
+        return "the key has no counter left";
+    case SFRAME_TOO_LONG:
+        return "the plaintext has more than 32,768 bytes or the metadata more than 1,024";
+    case SFRAME_HEADER_INVALID:
+        return "the header is cut short";
+    case SFRAME_FRAME_SHORT:
+        return "the frame is too short to hold a tag";
+    case SFRAME_ROOM_SHORT:
+        return "the room is too short for the result";
+    case SFRAME_TAG_DIFFERS:
+        return "the tag does not match";
+    case SFRAME_ALREADY_OPENED:
+        return "a frame with this counter was opened before";
+    case SFRAME_TOO_OLD:
+        return "the counter lies 64 or more below the highest that was opened";
+    case SFRAME_BAD_STATE:
+        return "the pieces are more or fewer than was announced";
+    case SFRAME_SENDING_BARRED:
+        return "no key is added for sending with suite 3: its tags have 4 bytes";
+    case SFRAME_RATCHET_KID_INVALID:
+        return "a step has 1 to 16 bits, and the key number must fit in 64";
+    case SFRAME_TOO_MANY_STEPS:
+        return "a key is walked at most 64 steps at once";
+    case SFRAME_GROUP_PART_TOO_LARGE:
+        return "the index or the bits of the epoch do not fit their width";
+    case SFRAME_GROUP_KID_TOO_LONG:
+        return "the widths are above 64 together, or the key number does not fit in 64 bits";
+    default:
+        return "unknown answer";
+    }
+}
 
 #ifdef __cplusplus
 }

@@ -1,8 +1,8 @@
 # What the scripts share. Sourced at the root of the repository.
 
-# Says which of the commands that are given is missing, if one is.
-missing_tool() {
-    local tool
+# Says which of the commands that are given are missing, each in a line, if some are.
+missing_tools() {
+    local tool status=1
     for tool in "$@"; do
         if ! command -v "$tool" >/dev/null 2>&1; then
             case $tool in
@@ -10,11 +10,12 @@ missing_tool() {
                 cargo) echo "missing: cargo, Rust's build tool, is not on the PATH" ;;
                 cc) echo "missing: cc, a C compiler, is not on the PATH" ;;
                 python3) echo "missing: python3, Python 3.9 or later, is not on the PATH" ;;
+                *) echo "missing: $tool is not on the PATH" ;;
             esac
-            return 0
+            status=0
         fi
     done
-    return 1
+    return "$status"
 }
 
 # Every static library of the repository, what C and Rust link and what only tests do: the crates that export functions.

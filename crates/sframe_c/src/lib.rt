@@ -331,3 +331,11 @@ pub extern "C" fn sframe_change_epoch(store: &mut [u8], e: u64, bits: u64) -> u3
 {
     change_epoch::change_epoch(store, e, bits)
 }
+
+// The version of this library, by SFRAME_VERSION_NUMBER of the header that belongs to it.
+#[no_mangle]
+pub extern "C" fn sframe_version() -> u32
+    ensures { λ r. ⌜ r ≡ 200 ⌝ }
+{
+    200
+}

@@ -12,9 +12,23 @@ mod places;
 mod stores;
 
 use bench::{print_method, progress};
-use std::path::{Path, PathBuf};
+use std::path::Path;
 use std::process::ExitCode;
 use std::{env, fs, io};
+
+const USAGE: &str = "\
+usage: bench [FOLDER]
+
+Measures headers, sealing and opening, the judging of stores, places, and other
+libraries where they are installed, each beside the reference. It takes about a
+minute of processor time, says on standard error what it is at, prints tables,
+and leaves them as CSV files in FOLDER, else in rust/target/bench:
+frames.csv, judging.csv, places.csv, libraries.csv, and earlier.csv where an
+earlier library is built in. scripts/plot draws frames.csv.
+
+When it is built, by cargo run --release -p bench:
+  SFRAME_LIB_DIR      the folder of libsframe_c.a, else target/staticlib
+  SFRAME_EARLIER_DIR  the folder of an earlier libsframe_c.a to compare with";
 
 /// Takes the folder that the tables are written to as CSV files.
 fn main() -> ExitCode {
@@ -25,9 +39,9 @@ fn main() -> ExitCode {
         others::child();
         return ExitCode::SUCCESS;
     }
-    let folder = match env::args_os().nth(1) {
-        Some(folder) => PathBuf::from(folder),
-        None => Path::new(env!("CARGO_MANIFEST_DIR")).with_file_name("target/bench"),
+    let folder = match bench::folder(env::args_os().skip(1), USAGE) {
+        Ok(folder) => folder,
+        Err(code) => return code,
     };
     match run(&folder) {
         Ok(()) => ExitCode::SUCCESS,

@@ -5,6 +5,9 @@
 mod clock;
 
 use clock::now;
+use std::ffi::OsString;
+use std::path::{Path, PathBuf};
+use std::process::ExitCode;
 use std::time::Duration;
 
 /// How many runs a median is taken of.
@@ -46,6 +49,26 @@ impl Times {
             reference: (longer.reference - self.reference) / count as f64,
         }
     }
+}
+
+/// The folder for the tables that the words behind the program's name give, else
+/// `target/bench`. Where they ask for help or are wrong, the program ends with
+/// what is answered.
+pub fn folder(mut words: impl Iterator<Item = OsString>, usage: &str) -> Result<PathBuf, ExitCode> {
+    let folder = match words.next() {
+        None => Path::new(env!("CARGO_MANIFEST_DIR")).with_file_name("target/bench"),
+        Some(word) if word == "-h" || word == "--help" => {
+            println!("{usage}");
+            return Err(ExitCode::SUCCESS);
+        }
+        Some(word) => PathBuf::from(word),
+    };
+    let is_option = folder.as_os_str().as_encoded_bytes().starts_with(b"-");
+    if is_option || words.next().is_some() {
+        eprintln!("one folder is taken, and no other option than --help\n\n{usage}");
+        return Err(ExitCode::from(64));
+    }
+    Ok(folder)
 }
 
 /// Says how the figures are taken, above the first table.

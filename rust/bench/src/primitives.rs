@@ -6,7 +6,7 @@ use reference::aes::{Aes, BLOCK};
 use reference::sha2::{Sha256, Sha512};
 use reference::suites::{Suite, SUITES};
 use std::hint::black_box;
-use std::path::{Path, PathBuf};
+use std::path::Path;
 use std::process::ExitCode;
 use std::{env, fs, io};
 use testkit::Generator;
@@ -19,11 +19,19 @@ const LONGEST: usize = 32_768;
 /// How many blocks the time of the block alone is taken over.
 const BLOCKS: u32 = 1_000;
 
+const USAGE: &str = "\
+usage: bench-primitives [FOLDER]
+
+Measures hashes, ciphers and suites beside the reference, prints tables, and
+leaves blocks.csv in FOLDER, else in rust/target/bench. When it is built, by
+cargo run --release -p bench --features primitives --bin bench-primitives,
+SFRAME_LIB_DIR names the folder of libsframe_test.a, else target/staticlib.";
+
 /// Takes the folder that the table of blocks is written to as a CSV file.
 fn main() -> ExitCode {
-    let folder = match env::args_os().nth(1) {
-        Some(folder) => PathBuf::from(folder),
-        None => Path::new(env!("CARGO_MANIFEST_DIR")).with_file_name("target/bench"),
+    let folder = match bench::folder(env::args_os().skip(1), USAGE) {
+        Ok(folder) => folder,
+        Err(code) => return code,
     };
     match run(&folder) {
         Ok(()) => ExitCode::SUCCESS,

@@ -25,9 +25,21 @@
 //! ```
 //!
 //! [`raw`] has the same calls with bare numbers, and [`ffi`] the C functions.
+//!
+//! # Features
+//!
+//! Without any the crate needs `core` alone. `alloc` adds the calls that answer a
+//! vector; `std`, which is on by default, adds `alloc` and a [`Refusal`] as a
+//! `std::io::Error`.
 
+#![no_std]
 #![deny(unsafe_code)]
 #![deny(unsafe_op_in_unsafe_fn)]
+
+#[cfg(feature = "alloc")]
+extern crate alloc;
+#[cfg(feature = "std")]
+extern crate std;
 
 #[allow(unsafe_code)]
 pub mod ffi;
@@ -37,7 +49,7 @@ mod refusal;
 mod store;
 
 pub use refusal::Refusal;
-pub use sframe::{Role, Suite, MAX_BASE_KEY, MAX_PLAINTEXT, MIN_BASE_KEY};
+pub use sframe::{wipe, Role, Suite, MAX_BASE_KEY, MAX_PLAINTEXT, MIN_BASE_KEY};
 pub use store::{KeyId, Location, Properties, Track, TrackStore};
 
 /// The length of a record: a store of `n` tracks takes `n` times as many bytes.

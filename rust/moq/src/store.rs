@@ -1,7 +1,9 @@
 //! The store of tracks in lent bytes.
 
-use crate::{raw, Refusal, Role, Suite, MAX_PLAINTEXT};
-use std::fmt;
+use crate::{raw, Refusal, Role, Suite};
+#[cfg(feature = "alloc")]
+use alloc::{vec, vec::Vec};
+use core::fmt;
 
 /// The Key ID of a track.
 #[derive(Clone, Copy, Debug, PartialEq, Eq, Hash)]
@@ -124,6 +126,7 @@ impl<'a> TrackStore<'a> {
 
     /// Seals `plaintext` to an object of its own. Refuses as
     /// [`seal`](Self::seal) does, except that the room suffices.
+    #[cfg(feature = "alloc")]
     pub fn seal_to_vec(
         &mut self,
         track: Track,
@@ -132,7 +135,7 @@ impl<'a> TrackStore<'a> {
         plaintext: &[u8],
     ) -> Result<Vec<u8>, Refusal> {
         let longest_tag = Suite::ALL.map(Suite::nt).into_iter().max().unwrap_or(0);
-        let mut object = vec![0; plaintext.len().min(MAX_PLAINTEXT) + longest_tag];
+        let mut object = vec![0; plaintext.len().min(crate::MAX_PLAINTEXT) + longest_tag];
         let length = self.seal(track, at, properties, plaintext, &mut object)?;
         object.truncate(length);
         Ok(object)
@@ -161,6 +164,7 @@ impl<'a> TrackStore<'a> {
 
     /// Opens an object to a plaintext of its own. Refuses as [`open`](Self::open)
     /// does, except that the room suffices.
+    #[cfg(feature = "alloc")]
     pub fn open_to_vec(
         &self,
         track: Track,
@@ -168,7 +172,7 @@ impl<'a> TrackStore<'a> {
         properties: Properties,
         object: &[u8],
     ) -> Result<Vec<u8>, Refusal> {
-        let mut plaintext = vec![0; object.len().min(MAX_PLAINTEXT)];
+        let mut plaintext = vec![0; object.len().min(crate::MAX_PLAINTEXT)];
         let length = self.open(track, at, properties, object, &mut plaintext)?;
         plaintext.truncate(length);
         Ok(plaintext)

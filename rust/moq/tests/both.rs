@@ -21,7 +21,7 @@ fn frames_and_objects() {
         group: 1,
         object: 2,
     };
-    keys.add(Role::Sending, suite, Kid(7), &key).unwrap();
+    keys.add(Role::Sending, Kid(7), suite, &key).unwrap();
     tracks.add(Role::Sending, track, suite, &key).unwrap();
     tracks.add(Role::Receiving, other, suite, &key).unwrap();
     for round in 0..3 {

@@ -75,3 +75,20 @@ fn sizes() {
         assert_eq!(constants[name], size as u64, "{name}");
     }
 }
+
+/// The sentences of `moq_answer_text` are those that a refusal shows.
+#[test]
+fn texts() {
+    let header = include_str!("../../../include/moq.h");
+    let (_, function) = header.split_once("*moq_answer_text(").unwrap();
+    let said: Vec<&str> = function.split("return \"").skip(1).collect();
+    let texts = Refusal::ALL.map(|refusal| refusal.to_string());
+    let expected = ["done"].into_iter().chain(texts.iter().map(|text| &**text));
+    assert_eq!(said.len(), Refusal::ALL.len() + 2);
+    for (said, expected) in said.into_iter().zip(expected.chain(["unknown answer"])) {
+        assert_eq!(
+            said.split_once("\";\n").map(|(text, _)| text),
+            Some(expected)
+        );
+    }
+}

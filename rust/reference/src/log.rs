@@ -14,7 +14,7 @@ pub fn report(log: &[u8]) -> String {
     if log.len() > MAX_LOG {
         return "too long\n".to_string();
     }
-    if log.len() % LOG_RECORD != 0 {
+    if !log.len().is_multiple_of(LOG_RECORD) {
         return "bad length\n".to_string();
     }
     let mut times = BTreeMap::<(u64, u64), u64>::new();

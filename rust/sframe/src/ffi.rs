@@ -244,4 +244,8 @@ extern "C" {
         index: *mut u64,
         epoch: *mut u64,
     ) -> u32;
+
+    /// The version of the archive: 10,000 times the major, 100 times the minor,
+    /// and the patch.
+    pub fn sframe_version() -> u32;
 }

@@ -1,6 +1,7 @@
 //! The header: a key number and a counter in 1 to 17 bytes.
 
 use crate::{raw, Refusal};
+use core::fmt;
 
 /// The longest header.
 pub const MAX_HEADER: usize = 17;
@@ -15,15 +16,34 @@ pub const MAX_HEADER: usize = 17;
 ///
 /// write_header(Ctr(0), Kid(200), &mut [0; 17]);
 /// ```
+///
+/// Both are printed as plain numbers:
+///
+/// ```
+/// assert_eq!(format!("{:>4}", sframe::Kid(200)), " 200");
+/// ```
 #[derive(Clone, Copy, Debug, PartialEq, Eq, Hash, PartialOrd, Ord)]
 pub struct Kid(pub u64);
+
+impl fmt::Display for Kid {
+    fn fmt(&self, f: &mut fmt::Formatter) -> fmt::Result {
+        self.0.fmt(f)
+    }
+}
 
 /// A counter: which of the frames under its key number a frame is.
 #[derive(Clone, Copy, Debug, PartialEq, Eq, Hash, PartialOrd, Ord)]
 pub struct Ctr(pub u64);
 
+impl fmt::Display for Ctr {
+    fn fmt(&self, f: &mut fmt::Formatter) -> fmt::Result {
+        self.0.fmt(f)
+    }
+}
+
 /// A header that was read.
 #[derive(Clone, Copy, Debug, PartialEq, Eq, Hash)]
+#[non_exhaustive]
 pub struct Header {
     /// Its key number.
     pub kid: Kid,

@@ -12,8 +12,8 @@
 //! let mut ward = Store::make(&mut ward)?;
 //! let mut doctor = Store::make(&mut doctor)?;
 //! let base_key = [7; 32]; // agreed on elsewhere
-//! ward.add(Role::Sending, Suite::Aes256GcmSha512_128, Kid(200), &base_key)?;
-//! doctor.add(Role::Receiving, Suite::Aes256GcmSha512_128, Kid(200), &base_key)?;
+//! ward.add(Role::Sending, Kid(200), Suite::Aes256GcmSha512_128, &base_key)?;
+//! doctor.add(Role::Receiving, Kid(200), Suite::Aes256GcmSha512_128, &base_key)?;
 //!
 //! let frame = ward.seal_to_vec(Kid(200), Metadata::NONE, b"a picture")?;
 //! assert_eq!(doctor.open_to_vec(&frame, Metadata::NONE)?, b"a picture");
@@ -23,16 +23,31 @@
 //! ```
 //!
 //! [`raw`] has the same calls with bare numbers, and [`ffi`] the C functions.
+//!
+//! # Features
+//!
+//! Without any the crate needs `core` alone. `alloc` adds [`OwnedStore`] and the
+//! calls that answer a vector; `std`, which is on by default, adds `alloc` and a
+//! [`Refusal`] as a `std::io::Error`.
 
+#![no_std]
 #![deny(unsafe_code)]
 #![deny(unsafe_op_in_unsafe_fn)]
 
+#[cfg(feature = "alloc")]
+extern crate alloc;
+#[cfg(feature = "std")]
+extern crate std;
+
 #[allow(unsafe_code)]
 pub mod ffi;
+mod frame;
 mod group;
 mod header;
 mod limits;
 mod metadata;
+#[cfg(feature = "alloc")]
+mod owned;
 mod pieces;
 mod ratchet;
 #[allow(unsafe_code)]
@@ -41,8 +56,12 @@ mod record;
 mod refusal;
 mod store;
 mod suite;
+mod version;
 mod view;
+#[allow(unsafe_code)]
+mod wipe;
 
+pub use frame::FrameReader;
 pub use group::{group_kid, group_parts, EpochBits, GroupParts, GroupWidths};
 pub use header::{read_header, write_header, write_header_at, Ctr, Header, Kid, MAX_HEADER};
 pub use limits::{
@@ -50,15 +69,21 @@ pub use limits::{
     MAX_RECORDS, MAX_STEPS, MIN_BASE_KEY, RECORD, WINDOW,
 };
 pub use metadata::Metadata;
+#[cfg(feature = "alloc")]
+pub use owned::OwnedStore;
 pub use pieces::{Checking, NotEnded, Sealing, STATE};
-pub use ratchet::{ratchet, ratchet_kid, ratchet_to_vec};
+#[cfg(feature = "alloc")]
+pub use ratchet::ratchet_to_vec;
+pub use ratchet::{ratchet, ratchet_kid};
 pub use record::{Place, Record, State, Window};
 pub use refusal::Refusal;
 pub use store::{Role, Store};
 pub use suite::Suite;
+pub use version::version;
 pub use view::StoreView;
+pub use wipe::wipe;
 
-// The examples of the front page are compiled.
+// The examples of the package's page are compiled.
 #[cfg(doctest)]
-#[doc = include_str!("../../../README.md")]
-struct FrontPage;
+#[doc = include_str!("../README.md")]
+struct Page;

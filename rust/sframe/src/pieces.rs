@@ -1,9 +1,8 @@
 //! Sealing a frame in pieces, and checking a received one in pieces.
 
-use crate::{raw, Kid, Metadata, Refusal, Store, StoreView};
+use crate::{raw, wipe, Kid, Metadata, Refusal, Store, StoreView};
 use core::error::Error;
 use core::fmt;
-use core::hint::black_box;
 
 /// The length of a running state.
 pub const STATE: usize = 168;
@@ -14,9 +13,7 @@ struct Running([u8; STATE]);
 
 impl Drop for Running {
     fn drop(&mut self) {
-        self.0.fill(0);
-        // Else the bytes would count as never read again.
-        black_box(&self.0);
+        wipe(&mut self.0);
     }
 }
 
@@ -33,8 +30,8 @@ impl Drop for Running {
 /// # let (mut ward, mut doctor) = ([0; RECORD], [0; RECORD]);
 /// # let mut ward = Store::make(&mut ward)?;
 /// # let mut doctor = Store::make(&mut doctor)?;
-/// # ward.add(Role::Sending, Suite::Aes128GcmSha256_128, Kid(200), &[7; 16])?;
-/// # doctor.add(Role::Receiving, Suite::Aes128GcmSha256_128, Kid(200), &[7; 16])?;
+/// # ward.add(Role::Sending, Kid(200), Suite::Aes128GcmSha256_128, &[7; 16])?;
+/// # doctor.add(Role::Receiving, Kid(200), Suite::Aes128GcmSha256_128, &[7; 16])?;
 /// let picture = [0x5a; 10_000];
 /// let (mut frame, mut room) = (vec![], [0; 1_200]); // `frame` stands for the line
 /// let (mut sealing, header) = ward.seal_begin(Kid(200), Metadata::NONE, 10_000, &mut room)?;
@@ -85,8 +82,8 @@ pub struct Sealing(Running);
 /// # let (mut ward, mut doctor) = ([0; RECORD], [0; RECORD]);
 /// # let mut ward = Store::make(&mut ward)?;
 /// # let mut doctor = Store::make(&mut doctor)?;
-/// # ward.add(Role::Sending, suite, Kid(200), &[7; 16])?;
-/// # doctor.add(Role::Receiving, suite, Kid(200), &[7; 16])?;
+/// # ward.add(Role::Sending, Kid(200), suite, &[7; 16])?;
+/// # doctor.add(Role::Receiving, Kid(200), suite, &[7; 16])?;
 /// let frame = ward.seal_to_vec(Kid(200), Metadata::NONE, &[0x5a; 10_000])?;
 /// let (rest, tag) = frame.split_at(frame.len() - suite.nt());
 /// let (header, ciphertext) = rest.split_at(read_header(rest)?.length);

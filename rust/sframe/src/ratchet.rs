@@ -1,6 +1,8 @@
 //! Sender keys that are ratcheted forward: RFC 9605, section 5.1.
 
-use crate::{raw, Kid, Refusal, Suite, MAX_BASE_KEY};
+use crate::{raw, Kid, Refusal, Suite};
+#[cfg(feature = "alloc")]
+use alloc::{vec, vec::Vec};
 
 /// Walks a base key so many steps forward, writes it at the front of `out` and
 /// answers its length: [`Suite::nh`] bytes, or after 0 steps those that the base
@@ -8,7 +10,7 @@ use crate::{raw, Kid, Refusal, Suite, MAX_BASE_KEY};
 ///
 /// Refuses with [`Refusal::BaseKeyLength`], [`Refusal::TooManySteps`] above
 /// [`MAX_STEPS`](crate::MAX_STEPS), or [`Refusal::RoomShort`];
-/// [`MAX_BASE_KEY`] bytes are always enough.
+/// [`MAX_BASE_KEY`](crate::MAX_BASE_KEY) bytes are always enough.
 ///
 /// ```
 /// use sframe::{ratchet, Refusal, Suite};
@@ -33,7 +35,8 @@ pub fn ratchet(
     Refusal::check(written.number, written.length)
 }
 
-/// As [`ratchet`], with the key as a vector.
+/// As [`ratchet`], with the key as a vector, which [`wipe`](crate::wipe) wipes
+/// once it is in a store.
 ///
 /// ```
 /// use sframe::{ratchet_to_vec, Suite};
@@ -44,8 +47,9 @@ pub fn ratchet(
 /// assert_eq!(after_five, ratchet_to_vec(suite, &[7; 16], 5)?);
 /// # Ok::<(), sframe::Refusal>(())
 /// ```
+#[cfg(feature = "alloc")]
 pub fn ratchet_to_vec(suite: Suite, base_key: &[u8], steps: u64) -> Result<Vec<u8>, Refusal> {
-    let mut key = vec![0; MAX_BASE_KEY];
+    let mut key = vec![0; crate::MAX_BASE_KEY];
     let length = ratchet(suite, base_key, steps, &mut key)?;
     key.truncate(length);
     Ok(key)
@@ -69,7 +73,7 @@ pub fn ratchet_to_vec(suite: Suite, base_key: &[u8], steps: u64) -> Result<Vec<u
 /// let mut ward = [0; RECORD];
 /// let mut ward = Store::make(&mut ward)?;
 /// let sent = ratchet_kid(generation, 5, bits)?;
-/// ward.add(Role::Sending, suite, sent, &ratchet_to_vec(suite, &base_key, 2)?)?;
+/// ward.add(Role::Sending, sent, suite, &ratchet_to_vec(suite, &base_key, 2)?)?;
 /// let frame = ward.seal_to_vec(sent, Metadata::NONE, b"a picture")?;
 ///
 /// let mut doctor = [0; RECORD];
@@ -77,7 +81,7 @@ pub fn ratchet_to_vec(suite: Suite, base_key: &[u8], steps: u64) -> Result<Vec<u
 /// let kid = read_header(&frame)?.kid;
 /// assert_eq!(kid.0 >> bits, generation);
 /// let steps = (kid.0.wrapping_sub(known)) % (1 << bits);
-/// doctor.add(Role::Receiving, suite, kid, &ratchet_to_vec(suite, &base_key, steps)?)?;
+/// doctor.add(Role::Receiving, kid, suite, &ratchet_to_vec(suite, &base_key, steps)?)?;
 /// assert_eq!(doctor.open_to_vec(&frame, Metadata::NONE)?, b"a picture");
 /// # Ok::<(), sframe::Refusal>(())
 /// ```

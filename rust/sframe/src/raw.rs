@@ -31,3 +31,10 @@ pub struct Written {
     /// How many bytes were written to the room, 0 when refused.
     pub length: usize,
 }
+
+/// The version of the archive: 10,000 times the major, 100 times the minor, and
+/// the patch.
+pub fn version() -> u32 {
+    // SAFETY: it takes nothing.
+    unsafe { crate::ffi::sframe_version() }
+}

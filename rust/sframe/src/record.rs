@@ -2,10 +2,11 @@
 
 use crate::limits::RECORD;
 use crate::{Ctr, Kid, Suite};
-use std::fmt;
+use core::fmt;
 
 /// What a record is for.
 #[derive(Clone, Copy, Debug, PartialEq, Eq, Hash)]
+#[non_exhaustive]
 pub enum State {
     /// Its key seals.
     Sending,
@@ -42,6 +43,7 @@ pub struct Place(pub usize);
 
 /// One record of a store. Key and salt are not shown.
 #[derive(Clone, Copy, Debug, PartialEq, Eq, Hash)]
+#[non_exhaustive]
 pub struct Record {
     /// Where it stands in the store.
     pub place: Place,
@@ -80,12 +82,11 @@ impl Window {
 
 /// The records of a sound store, in the order of their places; empty ones are
 /// left out.
-pub(crate) fn decode(store: &[u8]) -> Vec<Record> {
+pub(crate) fn decode(store: &[u8]) -> impl Iterator<Item = Record> + '_ {
     store
         .chunks_exact(RECORD)
         .enumerate()
         .filter_map(|(place, bytes)| decode_one(Place(place), bytes))
-        .collect()
 }
 
 fn decode_one(place: Place, bytes: &[u8]) -> Option<Record> {

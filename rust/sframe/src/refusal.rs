@@ -1,7 +1,7 @@
 //! Why a call refuses.
 
-use std::error::Error;
-use std::fmt;
+use core::error::Error;
+use core::fmt;
 
 /// The cause of a refusal. A refused call has changed none of the bytes lent
 /// to it.
@@ -160,3 +160,11 @@ impl fmt::Display for Refusal {
 }
 
 impl Error for Refusal {}
+
+/// For programs that hand every failure on as one of `std::io`.
+#[cfg(feature = "std")]
+impl From<Refusal> for std::io::Error {
+    fn from(refusal: Refusal) -> Self {
+        std::io::Error::other(refusal)
+    }
+}

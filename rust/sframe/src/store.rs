@@ -1,8 +1,11 @@
 //! The store of keys in lent bytes.
 
-use crate::limits::{frame_room, MAX_PLAINTEXT};
-use crate::{raw, EpochBits, Kid, Metadata, Place, Record, Refusal, StoreView, Suite};
-use std::fmt;
+#[cfg(feature = "alloc")]
+use crate::{frame_room, Record, MAX_PLAINTEXT};
+use crate::{raw, EpochBits, Kid, Metadata, Place, Refusal, StoreView, Suite};
+#[cfg(feature = "alloc")]
+use alloc::{vec, vec::Vec};
+use core::fmt;
 
 /// What a key is added for.
 #[derive(Clone, Copy, Debug, PartialEq, Eq, Hash)]
@@ -35,8 +38,8 @@ impl fmt::Display for Role {
 /// let (mut ward, mut doctor) = ([0; 2 * RECORD], [0; 2 * RECORD]);
 /// let mut ward = Store::make(&mut ward)?;
 /// let mut doctor = Store::make(&mut doctor)?;
-/// ward.add(Role::Sending, suite, Kid(200), b"sixteen or more bytes")?;
-/// doctor.add(Role::Receiving, suite, Kid(200), b"sixteen or more bytes")?;
+/// ward.add(Role::Sending, Kid(200), suite, b"sixteen or more bytes")?;
+/// doctor.add(Role::Receiving, Kid(200), suite, b"sixteen or more bytes")?;
 ///
 /// let picture = b"a picture";
 /// let mut room = [0; frame_room(Suite::Aes128CtrHmacSha256_80, 9)];
@@ -121,7 +124,7 @@ impl<'a> Store<'a> {
         Store(bytes)
     }
 
-    /// Adds the key that `suite` derives from `base_key` for `kid`, at the place of
+    /// Adds the key of `kid` that `suite` derives from `base_key`, at the place of
     /// its key number; the records behind move by one.
     ///
     /// A key number that was added for sending is never added again in this
@@ -140,16 +143,16 @@ impl<'a> Store<'a> {
     /// let mut bytes = [0; RECORD];
     /// let mut store = Store::make(&mut bytes)?;
     /// let suite = Suite::Aes128CtrHmacSha256_32;
-    /// let refused = store.add(Role::Sending, suite, Kid(200), &[7; 16]);
+    /// let refused = store.add(Role::Sending, Kid(200), suite, &[7; 16]);
     /// assert_eq!(refused, Err(Refusal::SendingBarred));
-    /// store.add(Role::Receiving, suite, Kid(200), &[7; 16])?;
+    /// store.add(Role::Receiving, Kid(200), suite, &[7; 16])?;
     /// # Ok::<(), Refusal>(())
     /// ```
     pub fn add(
         &mut self,
         role: Role,
-        suite: Suite,
         kid: Kid,
+        suite: Suite,
         base_key: &[u8],
     ) -> Result<(), Refusal> {
         let add = match role {
@@ -172,9 +175,9 @@ impl<'a> Store<'a> {
     /// let mut bytes = [0; RECORD];
     /// let mut store = Store::make(&mut bytes)?;
     /// let suite = Suite::Aes128GcmSha256_128;
-    /// store.add(Role::Sending, suite, Kid(200), &[7; 16])?;
+    /// store.add(Role::Sending, Kid(200), suite, &[7; 16])?;
     /// store.remove(Kid(200))?;
-    /// let again = store.add(Role::Sending, suite, Kid(200), &[7; 16]);
+    /// let again = store.add(Role::Sending, Kid(200), suite, &[7; 16]);
     /// assert_eq!(again, Err(Refusal::KidHeld));
     /// # Ok::<(), Refusal>(())
     /// ```
@@ -206,17 +209,17 @@ impl<'a> Store<'a> {
     /// let mut store = Store::make(&mut bytes)?;
     /// let suite = Suite::Aes128GcmSha256_128;
     /// let (epoch_14, epoch_15) = ([14; 16], [15; 16]); // their base keys
-    /// store.add(Role::Sending, suite, kid(5, 14)?, &epoch_14)?;
-    /// store.add(Role::Receiving, suite, kid(3, 14)?, &epoch_14)?;
-    /// store.add(Role::Receiving, suite, kid(3, 15)?, &epoch_15)?;
+    /// store.add(Role::Sending, kid(5, 14)?, suite, &epoch_14)?;
+    /// store.add(Role::Receiving, kid(3, 14)?, suite, &epoch_14)?;
+    /// store.add(Role::Receiving, kid(3, 15)?, suite, &epoch_15)?;
     ///
     /// // Epoch 30 has the low bits of epoch 14. Our own key is still there.
     /// store.change_epoch(EpochBits { width: widths.epoch, bits: 30 % 16 })?;
     /// let left: Vec<Kid> = store.records()?.iter().map(|record| record.kid).collect();
     /// assert_eq!(left, [kid(3, 15)?, kid(5, 14)?]);
     /// let epoch_30 = [30; 16];
-    /// store.add(Role::Receiving, suite, kid(3, 30)?, &epoch_30)?;
-    /// let own = store.add(Role::Sending, suite, kid(5, 30)?, &epoch_30);
+    /// store.add(Role::Receiving, kid(3, 30)?, suite, &epoch_30)?;
+    /// let own = store.add(Role::Sending, kid(5, 30)?, suite, &epoch_30);
     /// assert_eq!(own, Err(Refusal::KidHeld));
     /// # Ok::<(), Refusal>(())
     /// ```
@@ -236,7 +239,7 @@ impl<'a> Store<'a> {
 
     /// Seals `plaintext` under the key of `kid` and its next counter, into a
     /// frame at the front of `room`, and answers the frame's length. The bytes
-    /// behind it stay as they are. [`frame_room`] bytes are always enough.
+    /// behind it stay as they are. [`frame_room`](crate::frame_room) bytes are always enough.
     ///
     /// Refusals, the first that holds: [`StoreNotSound`](Refusal::StoreNotSound),
     /// [`KidUnknown`](Refusal::KidUnknown), [`WrongRole`](Refusal::WrongRole),
@@ -265,7 +268,7 @@ impl<'a> Store<'a> {
     ///
     /// let mut bytes = [0; RECORD];
     /// let mut store = Store::make(&mut bytes)?;
-    /// store.add(Role::Sending, Suite::Aes128GcmSha256_128, Kid(1), &[7; 16])?;
+    /// store.add(Role::Sending, Kid(1), Suite::Aes128GcmSha256_128, &[7; 16])?;
     ///
     /// let mut packet = *b"radio: .................";
     /// let length = store.seal_at(Kid(1), Metadata::NONE, b"", &mut packet, 7)?;
@@ -295,7 +298,7 @@ impl<'a> Store<'a> {
     ///
     /// let mut bytes = [0; 2 * RECORD];
     /// let mut store = Store::make(&mut bytes)?;
-    /// store.add(Role::Sending, Suite::Aes128GcmSha256_128, Kid(1), &[7; 16])?;
+    /// store.add(Role::Sending, Kid(1), Suite::Aes128GcmSha256_128, &[7; 16])?;
     /// let right = store.find(Kid(1))?;
     ///
     /// // Whatever the place is, the answer is the same.
@@ -327,11 +330,12 @@ impl<'a> Store<'a> {
     ///
     /// let mut bytes = [0; RECORD];
     /// let mut store = Store::make(&mut bytes)?;
-    /// store.add(Role::Sending, Suite::Aes128GcmSha256_128, Kid(1), &[7; 16])?;
+    /// store.add(Role::Sending, Kid(1), Suite::Aes128GcmSha256_128, &[7; 16])?;
     /// let frame = store.seal_to_vec(Kid(1), Metadata::NONE, b"")?;
     /// assert_eq!((frame.len(), frame[0]), (17, 0x10));
     /// # Ok::<(), sframe::Refusal>(())
     /// ```
+    #[cfg(feature = "alloc")]
     pub fn seal_to_vec(
         &mut self,
         kid: Kid,
@@ -392,8 +396,8 @@ impl<'a> Store<'a> {
     /// let (mut ward, mut doctor) = ([0; RECORD], [0; RECORD]);
     /// let mut ward = Store::make(&mut ward)?;
     /// let mut doctor = Store::make(&mut doctor)?;
-    /// ward.add(Role::Sending, suite, Kid(200), &[7; 16])?;
-    /// doctor.add(Role::Receiving, suite, Kid(200), &[7; 16])?;
+    /// ward.add(Role::Sending, Kid(200), suite, &[7; 16])?;
+    /// doctor.add(Role::Receiving, Kid(200), suite, &[7; 16])?;
     /// let mut seal = || ward.seal_to_vec(Kid(200), Metadata::NONE, b"picture");
     ///
     /// // The second frame comes first, and then each comes once more.
@@ -406,6 +410,7 @@ impl<'a> Store<'a> {
     /// }
     /// # Ok::<(), Refusal>(())
     /// ```
+    #[cfg(feature = "alloc")]
     pub fn open_to_vec(&mut self, frame: &[u8], metadata: Metadata) -> Result<Vec<u8>, Refusal> {
         let mut plaintext = vec![0; frame.len().min(MAX_PLAINTEXT)];
         let length = self.open(frame, metadata, &mut plaintext)?;
@@ -427,7 +432,7 @@ impl<'a> Store<'a> {
     ///
     /// let mut bytes = [0; 2 * RECORD];
     /// let mut store = Store::make(&mut bytes)?;
-    /// store.add(Role::Sending, Suite::Aes128GcmSha256_128, Kid(200), &[7; 16])?;
+    /// store.add(Role::Sending, Kid(200), Suite::Aes128GcmSha256_128, &[7; 16])?;
     /// store.seal_to_vec(Kid(200), Metadata::NONE, b"picture")?;
     ///
     /// let records = store.records()?;
@@ -436,6 +441,7 @@ impl<'a> Store<'a> {
     /// assert_eq!((records[0].kid, records[0].next), (Kid(200), Ctr(1)));
     /// # Ok::<(), sframe::Refusal>(())
     /// ```
+    #[cfg(feature = "alloc")]
     pub fn records(&self) -> Result<Vec<Record>, Refusal> {
         self.view().records()
     }

@@ -1,17 +1,19 @@
 //! The cipher suites and their sizes.
 
-use std::fmt;
+use crate::Refusal;
+use core::fmt;
 
 /// A cipher suite of RFC 9605, by its registered number.
 ///
 /// ```
-/// use sframe::Suite;
+/// use sframe::{Refusal, Suite};
 ///
 /// let suite = Suite::from_number(4).unwrap();
 /// assert_eq!(suite, Suite::Aes128GcmSha256_128);
 /// assert_eq!((suite.nk(), suite.nn(), suite.nt()), (16, 12, 16));
 /// assert_eq!(suite.to_string(), "AES_128_GCM_SHA256_128");
 /// assert_eq!(Suite::from_number(6), None);
+/// assert_eq!(Suite::try_from(6), Err(Refusal::NoSuchSuite));
 /// ```
 ///
 /// A bare number does not pass for a suite:
@@ -21,10 +23,11 @@ use std::fmt;
 ///
 /// let mut bytes = [0; RECORD];
 /// let mut store = Store::make(&mut bytes)?;
-/// store.add(Role::Sending, 6, Kid(200), &[7; 16])?;
+/// store.add(Role::Sending, Kid(200), 6, &[7; 16])?;
 /// # Ok::<(), sframe::Refusal>(())
 /// ```
 #[derive(Clone, Copy, Debug, PartialEq, Eq, Hash, PartialOrd, Ord)]
+#[non_exhaustive]
 pub enum Suite {
     /// AES-128 in counter mode, HMAC-SHA256 with a tag of 80 bits.
     Aes128CtrHmacSha256_80 = 1,
@@ -103,6 +106,15 @@ impl Suite {
             Aes128CtrHmacSha256_32 => 4,
             Aes128GcmSha256_128 | Aes256GcmSha512_128 => 16,
         }
+    }
+}
+
+/// Refuses with [`Refusal::NoSuchSuite`].
+impl TryFrom<u64> for Suite {
+    type Error = Refusal;
+
+    fn try_from(number: u64) -> Result<Self, Refusal> {
+        Suite::from_number(number).ok_or(Refusal::NoSuchSuite)
     }
 }
 

@@ -2,7 +2,9 @@
 
 use crate::record::{self, Place, Record};
 use crate::{raw, Kid, Refusal};
-use std::fmt;
+#[cfg(feature = "alloc")]
+use alloc::vec::Vec;
+use core::fmt;
 
 /// A store lent for reading. Any number of views may be over one store at once,
 /// in several threads too.
@@ -47,11 +49,11 @@ impl<'a> StoreView<'a> {
     ///
     /// let mut bytes = [0; 3 * RECORD];
     /// let mut store = Store::make(&mut bytes)?;
-    /// store.add(Role::Sending, Suite::Aes128GcmSha256_128, Kid(200), &[7; 16])?;
+    /// store.add(Role::Sending, Kid(200), Suite::Aes128GcmSha256_128, &[7; 16])?;
     /// assert_eq!(store.find(Kid(200)), Ok(Place(0)));
     ///
     /// // A lower number goes before it.
-    /// store.add(Role::Receiving, Suite::Aes128GcmSha256_128, Kid(56), &[7; 16])?;
+    /// store.add(Role::Receiving, Kid(56), Suite::Aes128GcmSha256_128, &[7; 16])?;
     /// assert_eq!(store.find(Kid(200)), Ok(Place(1)));
     /// assert_eq!(store.find(Kid(7)), Err(Refusal::KidUnknown));
     /// # Ok::<(), Refusal>(())
@@ -76,8 +78,8 @@ impl<'a> StoreView<'a> {
     /// let (mut ward, mut doctor) = ([0; RECORD], [0; RECORD]);
     /// let mut ward = Store::make(&mut ward)?;
     /// let mut doctor = Store::make(&mut doctor)?;
-    /// ward.add(Role::Sending, suite, Kid(200), &[7; 16])?;
-    /// doctor.add(Role::Receiving, suite, Kid(200), &[7; 16])?;
+    /// ward.add(Role::Sending, Kid(200), suite, &[7; 16])?;
+    /// doctor.add(Role::Receiving, Kid(200), suite, &[7; 16])?;
     ///
     /// // Two frames arrive, and the one between them is lost.
     /// for lost in [false, true, false] {
@@ -103,12 +105,30 @@ impl<'a> StoreView<'a> {
         }
     }
 
-    /// The records in use, by rising place and key number.
+    /// The records in use, by rising place and key number, without their keys.
     ///
     /// Refuses with [`Refusal::StoreNotSound`].
-    pub fn records(self) -> Result<Vec<Record>, Refusal> {
+    ///
+    /// ```
+    /// use sframe::{Kid, Role, Store, Suite, RECORD};
+    ///
+    /// let mut bytes = [0; 4 * RECORD];
+    /// let mut store = Store::make(&mut bytes)?;
+    /// store.add(Role::Sending, Kid(200), Suite::Aes128GcmSha256_128, &[7; 16])?;
+    /// store.add(Role::Receiving, Kid(56), Suite::Aes128GcmSha256_128, &[7; 16])?;
+    /// let kids = store.view().each_record()?.map(|record| record.kid);
+    /// assert!(kids.eq([Kid(56), Kid(200)]));
+    /// # Ok::<(), sframe::Refusal>(())
+    /// ```
+    pub fn each_record(self) -> Result<impl Iterator<Item = Record> + 'a, Refusal> {
         self.check()?;
         Ok(record::decode(self.0))
+    }
+
+    /// As [`each_record`](Self::each_record), in a vector.
+    #[cfg(feature = "alloc")]
+    pub fn records(self) -> Result<Vec<Record>, Refusal> {
+        Ok(self.each_record()?.collect())
     }
 }
 

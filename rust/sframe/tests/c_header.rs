@@ -78,8 +78,38 @@ fn sizes() {
         assert_eq!(constants[&*format!("SFRAME_{name}")], size as u64, "{name}");
     }
     let header = include_str!("../../../include/sframe.h");
-    let store = format!("#define SFRAME_STORE_SIZE(keys) ((size_t){RECORD} * (keys))\n");
+    let store = format!("#define SFRAME_STORE_SIZE(keys) (UINT64_C({RECORD}) * (keys))\n");
     assert!(header.contains(&store));
     let lengths = format!("is not {RECORD} to {} in steps", MAX_RECORDS * RECORD);
     assert!(header.contains(&lengths));
+}
+
+/// The sentences of `sframe_answer_text` are those that a refusal shows.
+#[test]
+fn texts() {
+    let header = include_str!("../../../include/sframe.h");
+    let (_, function) = header.split_once("*sframe_answer_text(").unwrap();
+    let said: Vec<&str> = function.split("return \"").skip(1).collect();
+    let texts = Refusal::ALL.map(|refusal| refusal.to_string());
+    let expected = ["done"].into_iter().chain(texts.iter().map(|text| &**text));
+    assert_eq!(said.len(), Refusal::ALL.len() + 2);
+    for (said, expected) in said.into_iter().zip(expected.chain(["unknown answer"])) {
+        assert_eq!(
+            said.split_once("\";\n").map(|(text, _)| text),
+            Some(expected)
+        );
+    }
+}
+
+/// Header, archive and package are of one version.
+#[test]
+fn versions() {
+    let constants = constants();
+    let part = |name: &str| constants[&*format!("SFRAME_VERSION_{name}")] as u32;
+    assert_eq!(version(), (part("MAJOR"), part("MINOR"), part("PATCH")));
+    let (major, minor, patch) = version();
+    let text = format!("{major}.{minor}.{patch}");
+    assert_eq!(text, env!("CARGO_PKG_VERSION"));
+    let header = include_str!("../../../include/sframe.h");
+    assert!(header.contains(&format!("#define SFRAME_VERSION \"{text}\"\n")));
 }

@@ -21,7 +21,7 @@ fn stores(suite: Suite) -> ([u8; RECORD], [u8; RECORD]) {
     let (mut ward, mut doctor) = ([0; RECORD], [0; RECORD]);
     for (bytes, role) in [(&mut ward, Role::Sending), (&mut doctor, Role::Receiving)] {
         let mut store = Store::make(bytes).unwrap();
-        store.add(role, suite, KID, &BASE_KEY).unwrap();
+        store.add(role, KID, suite, &BASE_KEY).unwrap();
     }
     (ward, doctor)
 }

@@ -3,9 +3,9 @@
 use reference::record::{Record, State as ReferenceState};
 use reference::suites::Suite as ReferenceSuite;
 use sframe::{
-    frame_room, group_kid, group_parts, raw, Ctr, EpochBits, GroupParts, GroupWidths, Kid,
-    Metadata, Place, Refusal, Role, State, Store, StoreView, Suite, Window, MAX_COUNTER,
-    MAX_METADATA, MAX_PLAINTEXT, MAX_RECORDS, RECORD,
+    frame_room, group_kid, group_parts, raw, Ctr, EpochBits, FrameReader, GroupParts, GroupWidths,
+    Kid, Metadata, OwnedStore, Place, Refusal, Role, State, Store, StoreView, Suite, Window,
+    MAX_COUNTER, MAX_METADATA, MAX_PLAINTEXT, MAX_RECORDS, RECORD,
 };
 use testkit::group_vectors;
 
@@ -18,7 +18,7 @@ fn stores(suite: Suite) -> ([u8; 2 * RECORD], [u8; 2 * RECORD]) {
     let (mut ward, mut doctor) = ([0; 2 * RECORD], [0; 2 * RECORD]);
     for (bytes, role) in [(&mut ward, Role::Sending), (&mut doctor, Role::Receiving)] {
         let mut store = Store::make(bytes).unwrap();
-        match store.add(role, suite, KID, &BASE_KEY) {
+        match store.add(role, KID, suite, &BASE_KEY) {
             Err(Refusal::SendingBarred) => put_sender(bytes, suite),
             added => added.unwrap(),
         }
@@ -52,9 +52,11 @@ fn numbers_of_suites() {
     for (number, suite) in (1..).zip(Suite::ALL) {
         assert_eq!(suite.number(), number);
         assert_eq!(Suite::from_number(number), Some(suite));
+        assert_eq!(Suite::try_from(number), Ok(suite));
     }
     for number in [0, 6, 256 + 1, u64::MAX] {
         assert_eq!(Suite::from_number(number), None);
+        assert_eq!(Suite::try_from(number), Err(Refusal::NoSuchSuite));
     }
 }
 
@@ -118,13 +120,13 @@ fn records_of_every_state() {
     let mut store = Store::make(&mut bytes).unwrap();
     assert_eq!(store.records(), Ok(vec![]));
     store
-        .add(Role::Receiving, Suite::ALL[0], Kid(1), &BASE_KEY)
+        .add(Role::Receiving, Kid(1), Suite::ALL[0], &BASE_KEY)
         .unwrap();
     store
-        .add(Role::Sending, Suite::ALL[1], Kid(u64::MAX), &BASE_KEY)
+        .add(Role::Sending, Kid(u64::MAX), Suite::ALL[1], &BASE_KEY)
         .unwrap();
     store
-        .add(Role::Sending, Suite::ALL[4], Kid(3), &BASE_KEY)
+        .add(Role::Sending, Kid(3), Suite::ALL[4], &BASE_KEY)
         .unwrap();
     for _ in 0..3 {
         store.seal_to_vec(Kid(3), Metadata::NONE, b"").unwrap();
@@ -132,7 +134,7 @@ fn records_of_every_state() {
     store.remove(Kid(3)).unwrap();
     store.remove(Kid(1)).unwrap();
     store
-        .add(Role::Receiving, Suite::ALL[2], Kid(4), &BASE_KEY)
+        .add(Role::Receiving, Kid(4), Suite::ALL[2], &BASE_KEY)
         .unwrap();
     let seen: Vec<_> = store
         .records()
@@ -325,6 +327,8 @@ fn debug_shows_no_key() {
         format!("{:?}", Store::over(&mut ward)),
         "Store of 192 bytes"
     );
+    let owned = OwnedStore::from_bytes(ward.to_vec()).unwrap();
+    assert_eq!(format!("{owned:?}"), "OwnedStore of 192 bytes");
 }
 
 /// One suite is for receiving alone. The sender that an older store holds goes on
@@ -336,7 +340,7 @@ fn one_suite_is_not_added_for_sending() {
         let barred = suite == Suite::Aes128CtrHmacSha256_32;
         let answer = Store::make(&mut bytes)
             .unwrap()
-            .add(Role::Sending, suite, KID, &BASE_KEY);
+            .add(Role::Sending, KID, suite, &BASE_KEY);
         assert_eq!(answer == Err(Refusal::SendingBarred), barred, "{suite}");
     }
 
@@ -349,7 +353,7 @@ fn one_suite_is_not_added_for_sending() {
     assert_eq!(doctor.open_to_vec(&frame, Metadata::NONE), Ok(vec![]));
     ward.remove(KID).unwrap();
     assert_eq!(ward.records().unwrap()[0].state, State::Retired);
-    let again = ward.add(Role::Receiving, suite, KID, &BASE_KEY);
+    let again = ward.add(Role::Receiving, KID, suite, &BASE_KEY);
     assert_eq!(again, Err(Refusal::KidHeld));
 }
 
@@ -359,4 +363,57 @@ fn a_suite_that_does_not_exist_is_refused_by_number() {
     assert_eq!(raw::make(&mut bytes), 0);
     let number = raw::add_sending(&mut bytes, 1, 6, &BASE_KEY);
     assert_eq!(Refusal::from_number(number), Some(Refusal::NoSuchSuite));
+}
+
+/// The frame reader cuts a frame where its header ends, in whatever form.
+#[test]
+fn frames_are_read_without_a_key() {
+    let (mut ward, _) = stores(Suite::ALL[3]);
+    let mut ward = Store::over(&mut ward);
+    for ctr in 0..300 {
+        let frame = ward.seal_to_vec(KID, Metadata::NONE, b"picture").unwrap();
+        let reader = FrameReader::new(&frame).unwrap();
+        assert_eq!((reader.kid(), reader.ctr()), (KID, Ctr(ctr)));
+        assert_eq!([reader.header(), reader.rest()].concat(), frame);
+        assert_eq!(reader.rest().len(), 7 + 16);
+        for cut in 0..reader.header().len() {
+            let read = FrameReader::new(&frame[..cut]);
+            assert_eq!(read, Err(Refusal::BadHeader));
+        }
+    }
+    let longer = [0x90, 0, 200, 1, 2];
+    let reader = FrameReader::new(&longer).unwrap();
+    assert_eq!((reader.kid(), reader.rest()), (KID, &longer[3..]));
+}
+
+/// An owned store has as many records as a store may have, and keeps its keys.
+#[test]
+fn owned_stores() {
+    for records in [0, MAX_RECORDS + 1, usize::MAX / RECORD + 1, usize::MAX] {
+        let made = OwnedStore::make(records);
+        assert_eq!(made.err(), Some(Refusal::StoreNotSound), "{records}");
+    }
+    for records in [1, 2, MAX_RECORDS] {
+        let mut store = OwnedStore::make(records).unwrap();
+        assert_eq!(store.as_bytes(), vec![0; records * RECORD]);
+        store
+            .lend()
+            .add(Role::Sending, KID, Suite::ALL[0], &BASE_KEY)
+            .unwrap();
+        let kept = store.as_bytes().to_vec();
+        let again = OwnedStore::from_bytes(kept).unwrap();
+        assert_eq!(again.view().records(), store.lend().records());
+    }
+    for bytes in [vec![], vec![0; RECORD - 1], vec![0xff; RECORD]] {
+        let kept = OwnedStore::from_bytes(bytes);
+        assert_eq!(kept.err(), Some(Refusal::StoreNotSound));
+    }
+}
+
+#[test]
+fn a_refusal_as_a_failure_of_input_or_output() {
+    let error = std::io::Error::from(Refusal::TagDiffers);
+    assert_eq!(error.to_string(), Refusal::TagDiffers.to_string());
+    let refusal = error.into_inner().and_then(|inner| inner.downcast().ok());
+    assert_eq!(refusal, Some(Box::new(Refusal::TagDiffers)));
 }

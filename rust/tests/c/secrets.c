@@ -142,8 +142,11 @@ int main(void)
         uint32_t answer;
         memset(base_key, 0x5a, sizeof base_key);
         VALGRIND_MAKE_MEM_UNDEFINED(base_key, sizeof base_key);
-        sframe_make(sending, sizeof sending);
-        sframe_make(receiving, sizeof receiving);
+        answer = sframe_make(sending, sizeof sending);
+        if (answer == SFRAME_DONE)
+            answer = sframe_make(receiving, sizeof receiving);
+        if (answer != SFRAME_DONE)
+            bad += failed("make", suite, 0, answer);
         answer = add_sending(suite);
         if (answer != SFRAME_DONE)
             bad += failed("add for sending", suite, 0, answer);

@@ -48,3 +48,8 @@ pub mod number {
     pub const GROUP_PART_TOO_LARGE: u32 = 22;
     pub const GROUP_KID_TOO_LONG: u32 = 23;
 }
+
+// The examples of the front page are compiled.
+#[cfg(doctest)]
+#[doc = include_str!("../../../README.md")]
+struct FrontPage;

@@ -123,7 +123,7 @@ fn random_logs() {
         let pairs: Vec<_> = (0..records)
             .map(|_| {
                 let (a, b) = (generator.u64(), generator.u64());
-                (a % 3 << shift, b % spread)
+                ((a % 3) << shift, b % spread)
             })
             .collect();
         compare(&log(pairs));

@@ -1,0 +1,6 @@
+int bare(void);
+
+int main(void)
+{
+    return bare();
+}
