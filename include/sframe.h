@@ -89,7 +89,7 @@ enum sframe_answer {
     SFRAME_STORE_FULL = 5,
     /* The store has no record of the key number. */
     SFRAME_KID_UNKNOWN = 6,
-    /* The record is not for this: sealing takes a sending one, opening and the report a receiving one,
+    /* The record is not for this: sealing takes a sending one, opening, checking and the report a receiving one,
      * and a retired one is not removed again. */
     SFRAME_WRONG_ROLE = 7,
     /* The key has sealed with its last counter, 2^64 - 1: none is left. */

@@ -33,7 +33,7 @@ pub enum Refusal {
     StoreFull = 5,
     /// The store has no record of the key number.
     KidUnknown = 6,
-    /// The record is not for this: sealing needs a sending one, opening and the
+    /// The record is not for this: sealing needs a sending one, opening, checking and the
     /// report a receiving one, and a retired one cannot be removed.
     WrongRole = 7,
     /// The key has sealed with its last counter, 2^64 - 1.
