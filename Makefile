@@ -1,5 +1,6 @@
+# SPDX-License-Identifier: MIT
 # `make` builds, `make help` says what else there is.
-.PHONY: all help libraries tools demo test lint pins memcheck secrets arm64 dist deb packages clean
+.PHONY: all help libraries tools demo test lint pins memcheck secrets guide video arm64 dist deb packages clean
 
 all: libraries tools
 	@echo "Libraries: target/staticlib/libsframe_c.a and libmoq_c.a, with include/. Tools: sframe and moq in rust/target/release."
@@ -15,6 +16,8 @@ help:
 	@echo "make pins       writes promises.txt, floors.txt and edits.txt anew"
 	@echo "make memcheck   the C examples and a part of the comparisons under valgrind"
 	@echo "make secrets    tests that no address and no branch depends on a secret"
+	@echo "make guide      compiles and runs the C code of the documents"
+	@echo "make video      takes a video over a bad line, with ffmpeg"
 	@echo "make arm64      the libraries for 64-bit Arm, compared under qemu"
 	@echo "make install    what is built, below PREFIX (/usr/local); make uninstall takes it away"
 	@echo "make dist       a release that links without the toolchain: target/dist"
@@ -37,6 +40,12 @@ test:
 
 lint:
 	@scripts/lint
+
+guide:
+	@scripts/guide
+
+video:
+	@scripts/video
 
 pins:
 	@scripts/promises --write

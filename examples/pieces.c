@@ -1,3 +1,4 @@
+/* SPDX-License-Identifier: MIT */
 /*
  * A camera whose memory is smaller than a frame: all that it has for one is a buffer of 2,048 bytes and a running state.
  * It seals pictures of up to 32,768 bytes as they come off the sensor, and sends each part at once. At the other end a

@@ -1,3 +1,4 @@
+/* SPDX-License-Identifier: MIT */
 /*
  * Two terminals: the ward's seals pictures under key number 200, the doctor's opens them. Ends with
  * status 0 where every answer is the one that is expected.

@@ -1,3 +1,4 @@
+/* SPDX-License-Identifier: MIT */
 /*
  * Secure objects over MoQ (draft-ietf-moq-secure-objects): the sealing layer's second C interface.
  *
@@ -51,11 +52,13 @@
 #define MOQ_VERSION "0.2.0"
 #define MOQ_VERSION_NUMBER (10000 * MOQ_VERSION_MAJOR + 100 * MOQ_VERSION_MINOR + MOQ_VERSION_PATCH)
 
-/* The compiler warns where an answer is not looked at. */
+/* The compiler warns where an answer is not looked at. What the header itself defines is inline, in C89 too. */
 #if defined(__GNUC__)
 #define MOQ_NODISCARD __attribute__((warn_unused_result))
+#define MOQ_INLINE static __inline__
 #else
 #define MOQ_NODISCARD
+#define MOQ_INLINE static inline
 #endif
 
 #ifdef __cplusplus
@@ -185,7 +188,7 @@ uint32_t moq_open(const uint8_t *store, size_t store_len, const uint8_t *name, s
 /*
  * What an answer says, as a sentence for a log; "unknown answer" where the number is none of enum moq_answer.
  */
-static inline const char *moq_answer_text(uint32_t answer)
+MOQ_INLINE const char *moq_answer_text(uint32_t answer)
 {
     switch (answer) {
     case MOQ_DONE:

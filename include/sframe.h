@@ -1,5 +1,24 @@
+/* SPDX-License-Identifier: MIT */
 /*
  * SFrame (RFC 9605): the sealing layer's C interface.
+ *
+ * A terminal seals every picture of a call before it leaves and opens every picture that arrives; a media server in between
+ * can neither see nor change them. Before you use it:
+ *   - processors: x86-64 and 64-bit Arm, little-endian, with a size_t of 64 bits; others are refused below;
+ *   - a frame has at most 32,768 bytes of plaintext. A longer picture has to be cut: docs/INTEGRATION.md has the code;
+ *   - one caller at a time for each store, and a store is neither copied nor set back: two pictures would go out under one
+ *     nonce. docs/INTEGRATION.md says how to keep one over a reboot;
+ *   - a frame opens once in a store, and not at all when it is 64 or more counters behind;
+ *   - take suite 4 or 5, whose tags have 16 bytes. Suite 3 is for receiving from older senders alone;
+ *   - no address and no branch depends on key or plaintext, but for sframe_open's verdict on the tag. This is tested on the
+ *     archive and not proved, and says nothing of time. A store holds its keys in clear, and values made of a key stay on
+ *     the stack after a call;
+ *   - left to others: how keys reach the terminals, RTP, files, random numbers (none are used here), and telling a forger
+ *     from a faulty line.
+ *
+ * Four words: bytes are lent to a call by a pointer and a length, for as long as the call lasts; a room is bytes that are lent
+ * for a result, and may be longer than it; a store is sound when its bytes obey docs/STORE.md; a refusal is an answer other
+ * than 0.
  *
  * Link libsframe_c.a, which target/staticlib has for x86-64 and target/aarch64 for 64-bit Arm. The
  * proofs are of the code, not of either archive's machine code; README says what was tested of each.
@@ -61,11 +80,13 @@
 #define SFRAME_VERSION "0.2.0"
 #define SFRAME_VERSION_NUMBER (10000 * SFRAME_VERSION_MAJOR + 100 * SFRAME_VERSION_MINOR + SFRAME_VERSION_PATCH)
 
-/* The compiler warns where an answer is not looked at. */
+/* The compiler warns where an answer is not looked at. What the header itself defines is inline, in C89 too. */
 #if defined(__GNUC__)
 #define SFRAME_NODISCARD __attribute__((warn_unused_result))
+#define SFRAME_INLINE static __inline__
 #else
 #define SFRAME_NODISCARD
+#define SFRAME_INLINE static inline
 #endif
 
 #ifdef __cplusplus
@@ -496,7 +517,7 @@ uint32_t sframe_version(void);
 /*
  * What an answer says, as a sentence for a log; "unknown answer" where the number is none of enum sframe_answer.
  */
-static inline const char *sframe_answer_text(uint32_t answer)
+SFRAME_INLINE const char *sframe_answer_text(uint32_t answer)
 {
     switch (answer) {
     case SFRAME_DONE:

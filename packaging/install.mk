@@ -1,3 +1,4 @@
+# SPDX-License-Identifier: MIT
 # Installs the libraries for C, and the tools where they are built. In a release this is the Makefile itself.
 #     make install [PREFIX=/usr/local] [DESTDIR=] [ARCH=x86_64 | aarch64]
 #     make uninstall, with the same variables

@@ -1,3 +1,4 @@
+// SPDX-License-Identifier: MIT
 //! Build script of every package that calls the sealing layer. It links the
 //! static library that the package names under `links`.
 //!

@@ -1,4 +1,5 @@
 #!/usr/bin/env python3
+# SPDX-License-Identifier: MIT
 """Finds what should stand in one place only: numbers and names of a layout outside the crate that owns it (layout.txt), and
 long chains of `.before` in a proof outside a named point.
 

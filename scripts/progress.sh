@@ -1,3 +1,4 @@
+# SPDX-License-Identifier: MIT
 # What a run that proves says while it does. Sourced at the root of the repository, behind scripts/tools.sh.
 
 # The crates that are needed to build those that are named, themselves among them: those that depend on nothing first.

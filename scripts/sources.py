@@ -1,3 +1,4 @@
+# SPDX-License-Identifier: MIT
 """Reads the sources of the repository: the list of crates, files of definitions and proofs (.antt), files of
 code (.rt). What the scripts beside it share. It is no command of its own; it looks for nothing but names and
 layout, as `rt fmt` leaves them."""

@@ -1,3 +1,4 @@
+# SPDX-License-Identifier: MIT
 # What the scripts share. Sourced at the root of the repository.
 
 # Says which of the commands that are given are missing, each in a line, if some are.

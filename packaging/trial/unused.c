@@ -1,3 +1,4 @@
+/* SPDX-License-Identifier: MIT */
 /* Does not look at an answer: the compiler has to warn. */
 #include "sframe.h"
 

@@ -1,3 +1,4 @@
+/* SPDX-License-Identifier: MIT */
 /*
  * A program outside the repository, for C and C++ alike: both libraries as they are installed. Ends with 0
  * where all answers are right.

@@ -1,3 +1,4 @@
+// SPDX-License-Identifier: MIT
 //! Looks for the C libraries that the bench can compare with. Where one's header
 //! is found, its part in `others/` is compiled and the library is linked. Where
 //! `SFRAME_EARLIER_DIR` names a folder, the layer's archive there is linked too,

@@ -1,3 +1,4 @@
+/* SPDX-License-Identifier: MIT */
 /* What the parts share. */
 #ifndef OTHERS_H
 #define OTHERS_H

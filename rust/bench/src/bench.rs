@@ -1,3 +1,4 @@
+// SPDX-License-Identifier: MIT
 //! Times of the calls that the sealing layer offers.
 
 mod calls;

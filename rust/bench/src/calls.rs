@@ -1,3 +1,4 @@
+// SPDX-License-Identifier: MIT
 //! Sealing and opening, on both sides.
 
 use crate::stores::{frame, full, set_back, KID};

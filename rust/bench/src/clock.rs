@@ -1,3 +1,4 @@
+// SPDX-License-Identifier: MIT
 //! The clock of the bench: the processor time of its own thread, which leaves out
 //! the time in which the system ran something else.
 

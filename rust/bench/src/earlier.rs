@@ -1,3 +1,4 @@
+// SPDX-License-Identifier: MIT
 //! The layer beside an earlier one, in one program and in turns. The earlier
 //! archive is the one in the folder that `SFRAME_EARLIER_DIR` names.
 

@@ -1,3 +1,4 @@
+// SPDX-License-Identifier: MIT
 //! Sealing and opening whole frames.
 
 use crate::calls::{open, seal, Place};

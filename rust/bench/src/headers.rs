@@ -1,3 +1,4 @@
+// SPDX-License-Identifier: MIT
 //! Writing and reading headers.
 
 use bench::{measure, print_heading, print_time};

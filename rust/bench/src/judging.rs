@@ -1,3 +1,4 @@
+// SPDX-License-Identifier: MIT
 //! What judging the whole store costs: calls that are refused right after it.
 
 use crate::stores::{full, UNKNOWN};

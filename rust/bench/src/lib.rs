@@ -1,3 +1,4 @@
+// SPDX-License-Identifier: MIT
 //! Measuring two programs side by side.
 
 #![deny(unsafe_code)]

@@ -1,3 +1,4 @@
+// SPDX-License-Identifier: MIT
 //! Other libraries that a terminal maker could pick, where they are installed.
 //!
 //! Each is measured twice, in a program of its own: held to plain instructions,
@@ -35,15 +36,17 @@ const FREE: (&str, &str) = ("BENCH_SPECIAL", "1");
 type Encrypt =
     unsafe extern "C" fn(*const u8, *const u8, *const u8, usize, *mut u8, usize, *mut u8);
 
-/// A library, and what it offers for suites 1 and 4 where it is installed.
+/// A library, which of its code runs held to plain instructions and free, and
+/// what it offers for suites 1 and 4 where it is installed.
 struct Library {
     name: &'static str,
+    code: [&'static str; 2],
     suites: Option<[Encrypt; 2]>,
 }
 
 /// A library's entry: its functions in `others/`, where the build found it.
 macro_rules! library {
-    ($name:literal, $has:meta, $($suite:ident),*) => {{
+    ($name:literal, $code:expr, $has:meta, $($suite:ident),*) => {{
         #[cfg($has)]
         let suites = {
             extern "C" {
@@ -63,18 +66,26 @@ macro_rules! library {
         let suites = None;
         Library {
             name: $name,
+            code: $code,
             suites,
         }
     }};
 }
 
+const BEARSSL: [&str; 2] = [
+    "aes_big ghash_ctmul64 sha256",
+    "aes_x86ni ghash_pclmul sha256",
+];
+const TOMCRYPT: [&str; 2] = ["C with tables"; 2];
+const ASSEMBLER: [&str; 2] = ["x86-64 assembler with tables", "its own choice"];
+
 #[rustfmt::skip]
 fn libraries() -> [Library; 4] {
     [
-        library!("BearSSL", has_bearssl, others_bearssl_suite1, others_bearssl_suite4),
-        library!("libtomcrypt", has_tomcrypt, others_tomcrypt_suite1, others_tomcrypt_suite4),
-        library!("nettle", has_nettle, others_nettle_suite1, others_nettle_suite4),
-        library!("OpenSSL", has_openssl, others_openssl_suite1, others_openssl_suite4),
+        library!("BearSSL", BEARSSL, has_bearssl, others_bearssl_suite1, others_bearssl_suite4),
+        library!("libtomcrypt", TOMCRYPT, has_tomcrypt, others_tomcrypt_suite1, others_tomcrypt_suite4),
+        library!("nettle", ASSEMBLER, has_nettle, others_nettle_suite1, others_nettle_suite4),
+        library!("OpenSSL", ASSEMBLER, has_openssl, others_openssl_suite1, others_openssl_suite4),
     ]
 }
 
@@ -89,8 +100,9 @@ pub fn run(csv: &Path) -> io::Result<()> {
     );
     let held = measured(&HELD)?;
     let free = measured(&[FREE])?;
-    let mut rows =
-        String::from("library,suite,bytes,ours_ns,theirs_ns,ours_again_ns,theirs_free_ns\n");
+    let mut rows = String::from(
+        "library,suite,bytes,ours_ns,theirs_ns,ours_again_ns,theirs_free_ns,theirs_code,theirs_free_code\n",
+    );
     for (held, free) in held.iter().zip(&free) {
         let (ours, theirs) = (held.times.ours, held.times.reference);
         let (again, quick) = (free.times.ours, free.times.reference);
@@ -102,9 +114,14 @@ pub fn run(csv: &Path) -> io::Result<()> {
             ours / theirs,
             again / quick
         );
+        let all = libraries();
+        let [plain, special] = all
+            .iter()
+            .find(|one| one.name == held.library)
+            .map_or([""; 2], |one| one.code);
         writeln!(
             rows,
-            "{},{},{},{ours:.1},{theirs:.1},{again:.1},{quick:.1}",
+            "{},{},{},{ours:.1},{theirs:.1},{again:.1},{quick:.1},{plain},{special}",
             held.library, held.suite, held.length
         )
         .expect("a string takes any text");

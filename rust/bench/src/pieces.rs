@@ -1,3 +1,4 @@
+// SPDX-License-Identifier: MIT
 //! A long frame sealed in pieces, and checked in pieces, beside the whole one.
 
 use crate::stores::{frame, full, set_back, KID};

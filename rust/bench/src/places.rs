@@ -1,3 +1,4 @@
+// SPDX-License-Identifier: MIT
 //! Sealing and opening where the caller hands in a place, right or wrong, and
 //! where it does not.
 

@@ -1,3 +1,4 @@
+// SPDX-License-Identifier: MIT
 //! Times of the primitives under the sealing layer.
 
 use bench::{measure, print_heading, print_method, print_rate, print_time, Times};

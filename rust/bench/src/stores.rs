@@ -1,3 +1,4 @@
+// SPDX-License-Identifier: MIT
 //! Stores to measure on.
 
 use reference::record::{Record, State};

@@ -1,3 +1,4 @@
+// SPDX-License-Identifier: MIT
 //! What the tool offers, in the words of its help.
 
 use toolkit::spec::Takes::{File, Nothing, Word};

@@ -1,3 +1,4 @@
+// SPDX-License-Identifier: MIT
 //! `moq`: seals and opens MoQ objects with a store of tracks in a file.
 
 mod arguments;

@@ -1,3 +1,4 @@
+// SPDX-License-Identifier: MIT
 //! The command-line tool and the demonstration, run as processes.
 
 use std::fs;

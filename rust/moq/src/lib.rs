@@ -1,3 +1,4 @@
+// SPDX-License-Identifier: MIT
 //! Secure objects over MoQ (draft-ietf-moq-secure-objects): the safe wrapper over
 //! the sealing layer's second static library.
 //!
@@ -60,3 +61,8 @@ pub const MAX_RECORDS: usize = 16;
 pub const MAX_NAME: usize = 256;
 /// The longest serialized immutable properties.
 pub const MAX_PROPERTIES: usize = 1_024;
+
+// The examples of the package's page are compiled.
+#[cfg(doctest)]
+#[doc = include_str!("../README.md")]
+struct Page;

@@ -1,3 +1,4 @@
+// SPDX-License-Identifier: MIT
 //! Why a call refuses.
 
 use core::error::Error;

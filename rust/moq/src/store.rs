@@ -1,3 +1,4 @@
+// SPDX-License-Identifier: MIT
 //! The store of tracks in lent bytes.
 
 use crate::{raw, Refusal, Role, Suite};

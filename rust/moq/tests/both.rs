@@ -1,3 +1,4 @@
+// SPDX-License-Identifier: MIT
 //! Both archives in one program: frames and objects side by side.
 
 use moq::{KeyId, Location, Properties, Track, TrackStore};

@@ -1,8 +1,10 @@
+// SPDX-License-Identifier: MIT
 //! The numbers of `include/moq.h` are the wrapper's, and where a cause is
 //! SFrame's too, those of `include/sframe.h`.
 
 use moq::*;
 use std::collections::HashMap;
+use testkit::answer_texts;
 
 /// Every name of a header that stands for a number, without its prefix.
 fn constants(header: &'static str, prefix: &str) -> HashMap<String, u64> {
@@ -80,15 +82,6 @@ fn sizes() {
 #[test]
 fn texts() {
     let header = include_str!("../../../include/moq.h");
-    let (_, function) = header.split_once("*moq_answer_text(").unwrap();
-    let said: Vec<&str> = function.split("return \"").skip(1).collect();
-    let texts = Refusal::ALL.map(|refusal| refusal.to_string());
-    let expected = ["done"].into_iter().chain(texts.iter().map(|text| &**text));
-    assert_eq!(said.len(), Refusal::ALL.len() + 2);
-    for (said, expected) in said.into_iter().zip(expected.chain(["unknown answer"])) {
-        assert_eq!(
-            said.split_once("\";\n").map(|(text, _)| text),
-            Some(expected)
-        );
-    }
+    let shown = Refusal::ALL.map(|refusal| refusal.to_string());
+    assert_eq!(answer_texts(header, "moq_answer_text"), shown);
 }

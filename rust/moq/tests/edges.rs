@@ -1,3 +1,4 @@
+// SPDX-License-Identifier: MIT
 //! Edges of every call, beside the reference.
 
 mod beside;

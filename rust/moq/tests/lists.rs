@@ -1,3 +1,4 @@
+// SPDX-License-Identifier: MIT
 //! Long lists of calls from fixed seeds between a publisher and a subscriber,
 //! each call beside the reference.
 

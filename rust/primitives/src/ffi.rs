@@ -1,3 +1,4 @@
+// SPDX-License-Identifier: MIT
 //! The C functions of the library `sframe_test`. Each answers 0 for done, with
 //! its result at the front of the output, or 1 with nothing changed. Decryption
 //! answers 13 for a tag that differs, likewise with nothing changed.

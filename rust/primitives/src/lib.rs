@@ -1,3 +1,4 @@
+// SPDX-License-Identifier: MIT
 //! The sealing layer's primitives. The layer keeps them to itself; the library
 //! `sframe_test` exports them so that they can be compared and measured.
 //!

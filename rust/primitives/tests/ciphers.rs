@@ -1,3 +1,4 @@
+// SPDX-License-Identifier: MIT
 //! AES, counter mode and GCM beside the reference's.
 
 use primitives::{aes, aes_repeat, ctr, Gcm};

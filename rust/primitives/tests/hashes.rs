@@ -1,3 +1,4 @@
+// SPDX-License-Identifier: MIT
 //! SHA-2, HMAC and HKDF beside the reference's.
 
 use primitives::{hash, hkdf, hmac, Hash};

@@ -1,3 +1,4 @@
+// SPDX-License-Identifier: MIT
 //! The five suites beside the reference's: derivation, encryption, decryption.
 
 use primitives::{derive, hkdf, hmac, Aead, Decrypted, Hash};

@@ -1,4 +1,5 @@
 #!/usr/bin/env python3
+# SPDX-License-Identifier: MIT
 """Extracts the test vectors of draft-ietf-sframe-enc-09, appendix D.
 
 usage: extract.py DRAFT.txt   (writes the two tables beside this script, and prints the header vectors)

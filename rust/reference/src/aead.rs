@@ -1,3 +1,4 @@
+// SPDX-License-Identifier: MIT
 //! Each suite's AEAD, RFC 9605 section 4.5.
 
 use crate::aes::Aes;

@@ -1,3 +1,4 @@
+// SPDX-License-Identifier: MIT
 //! AES-128 and AES-256 encryption, FIPS 197, by word tables.
 
 /// The block length in bytes.

@@ -1,3 +1,4 @@
+// SPDX-License-Identifier: MIT
 //! Counter mode over AES, NIST SP 800-38A section 6.5. A counter block is a
 //! 12-byte nonce and a 32-bit count, big-endian; only the count moves.
 

@@ -1,3 +1,4 @@
+// SPDX-License-Identifier: MIT
 //! AES-GCM with 12-byte nonces and full tags, NIST SP 800-38D section 7.
 
 use crate::aes::{Aes, BLOCK};

@@ -1,3 +1,4 @@
+// SPDX-License-Identifier: MIT
 //! GHASH, NIST SP 800-38D section 6.4, four bits at a time.
 //!
 //! A block stands for an element of GF(2^128). As a big-endian number, its

@@ -1,3 +1,4 @@
+// SPDX-License-Identifier: MIT
 //! KIDs of the members of an MLS group, RFC 9605 section 5.2: a context, the
 //! sender's index and the low bits of the epoch. S bits are the index's and E
 //! bits the epoch's.

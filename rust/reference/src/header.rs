@@ -1,3 +1,4 @@
+// SPDX-License-Identifier: MIT
 //! The SFrame header, RFC 9605 section 4.3.
 //!
 //! ```text

@@ -1,3 +1,4 @@
+// SPDX-License-Identifier: MIT
 //! HKDF, RFC 5869.
 
 use crate::hmac::{hmac, Hmac};

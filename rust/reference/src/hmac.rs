@@ -1,3 +1,4 @@
+// SPDX-License-Identifier: MIT
 //! HMAC, RFC 2104.
 
 use crate::sha2::Hash;

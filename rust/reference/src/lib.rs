@@ -1,3 +1,4 @@
+// SPDX-License-Identifier: MIT
 //! SFrame (RFC 9605), cipher suites 1 to 5, with a key store: a second program
 //! to compare the sealing layer with.
 //!

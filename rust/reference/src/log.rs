@@ -1,3 +1,4 @@
+// SPDX-License-Identifier: MIT
 //! The service bench's log of sealings: records of 16 bytes, KID then counter,
 //! big-endian.
 

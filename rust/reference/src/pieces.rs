@@ -1,3 +1,4 @@
+// SPDX-License-Identifier: MIT
 //! A frame sealed in pieces, or a received one checked in pieces: the running
 //! state that goes from call to call, in lent bytes.
 //!

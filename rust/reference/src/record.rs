@@ -1,3 +1,4 @@
+// SPDX-License-Identifier: MIT
 //! One record of the store: 96 bytes.
 //!
 //! | bytes | content |

@@ -1,3 +1,4 @@
+// SPDX-License-Identifier: MIT
 //! Why a call refuses.
 
 /// The causes of a refusal, by number. 0 means done.

@@ -1,3 +1,4 @@
+// SPDX-License-Identifier: MIT
 //! SHA-256 and SHA-512, FIPS 180-4.
 
 mod constants;

@@ -1,3 +1,4 @@
+// SPDX-License-Identifier: MIT
 //! The key store in lent bytes, and the calls on it.
 //!
 //! Records stand in rising order of their KIDs, and empty ones behind them. Each

@@ -1,3 +1,4 @@
+// SPDX-License-Identifier: MIT
 //! The cipher suites, RFC 9605 sections 4.4.2 and 4.5.
 
 use crate::hkdf;

@@ -1,3 +1,4 @@
+// SPDX-License-Identifier: MIT
 //! The replay window of a receiving key: which of the last 64 counters it has
 //! opened.
 

@@ -1,3 +1,4 @@
+// SPDX-License-Identifier: MIT
 //! FIPS 197 and SP 800-38A examples.
 
 use reference::aes::Aes;

@@ -1,3 +1,4 @@
+// SPDX-License-Identifier: MIT
 //! The cases with 12-byte nonces of the GCM specification (McGrew and Viega),
 //! appendix B: 1 to 4 for AES-128, 13 to 16 for AES-256.
 

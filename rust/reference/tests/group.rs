@@ -1,3 +1,4 @@
+// SPDX-License-Identifier: MIT
 //! KIDs of an MLS group: those of the RFC's figure, and the edges.
 
 use reference::group::{kid, parts, Parts};

@@ -1,3 +1,4 @@
+// SPDX-License-Identifier: MIT
 //! The header on its published vectors and at its edges.
 
 use reference::header::{read_header, write_header, MAX_LENGTH};

@@ -1,3 +1,4 @@
+// SPDX-License-Identifier: MIT
 //! RFC 5869, appendix A.1 to A.3.
 
 use reference::hkdf::{expand, extract};

@@ -1,3 +1,4 @@
+// SPDX-License-Identifier: MIT
 //! RFC 4231, section 4.
 
 use reference::hmac::hmac;

@@ -1,3 +1,4 @@
+// SPDX-License-Identifier: MIT
 //! The report of a log of sealings.
 
 use reference::log::{report, LOG_RECORD, MAX_LOG};

@@ -1,3 +1,4 @@
+// SPDX-License-Identifier: MIT
 //! Sealing and checking in pieces: the whole frame however it is cut, every
 //! refusal, and running states that cannot be.
 

@@ -1,3 +1,4 @@
+// SPDX-License-Identifier: MIT
 //! The ratchet of base keys: keys computed elsewhere, and the edges.
 
 use reference::ratchet::{kid, next_key, walk, MAX_STEPS};

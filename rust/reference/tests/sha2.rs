@@ -1,3 +1,4 @@
+// SPDX-License-Identifier: MIT
 //! The FIPS 180-4 examples, and a message fed in pieces.
 
 use reference::sha2::{Hash, Sha256, Sha512};

@@ -1,3 +1,4 @@
+// SPDX-License-Identifier: MIT
 //! The store and its calls: every refusal, the edges, and a list of calls.
 
 use reference::record::{Record, State, MAX_COUNTER, RECORD};

@@ -1,3 +1,4 @@
+// SPDX-License-Identifier: MIT
 //! The published AEAD and SFrame cases, with every intermediate value.
 
 use reference::aead::Aead;

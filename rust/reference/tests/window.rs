@@ -1,3 +1,4 @@
+// SPDX-License-Identifier: MIT
 //! The window over the last 64 counters.
 
 use reference::window::Window;

@@ -1,3 +1,4 @@
+// SPDX-License-Identifier: MIT
 //! The frame reader: what a frame says without a key.
 
 use crate::{read_header, Ctr, Header, Kid, Refusal};

@@ -1,3 +1,4 @@
+// SPDX-License-Identifier: MIT
 //! Key numbers of the members of an MLS group: RFC 9605, section 5.2.
 
 use crate::{raw, Kid, Refusal};

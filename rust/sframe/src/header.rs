@@ -1,3 +1,4 @@
+// SPDX-License-Identifier: MIT
 //! The header: a key number and a counter in 1 to 17 bytes.
 
 use crate::{raw, Refusal};

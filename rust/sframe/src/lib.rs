@@ -1,3 +1,4 @@
+// SPDX-License-Identifier: MIT
 //! SFrame (RFC 9605): the safe wrapper over the sealing layer's static library.
 //!
 //! A [`Store`] holds the keys in bytes that the caller lends. It seals under a

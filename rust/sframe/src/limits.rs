@@ -1,3 +1,4 @@
+// SPDX-License-Identifier: MIT
 //! The sizes that a caller plans by.
 
 use crate::{Suite, MAX_HEADER};

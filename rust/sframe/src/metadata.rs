@@ -1,3 +1,4 @@
+// SPDX-License-Identifier: MIT
 //! What a frame is bound to without carrying it.
 
 /// Bytes that a frame is bound to without carrying them. Sealing and opening

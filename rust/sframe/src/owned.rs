@@ -1,3 +1,4 @@
+// SPDX-License-Identifier: MIT
 //! A store in bytes of its own.
 
 use crate::{wipe, Refusal, Store, StoreView, MAX_RECORDS, RECORD};

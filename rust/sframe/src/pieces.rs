@@ -1,3 +1,4 @@
+// SPDX-License-Identifier: MIT
 //! Sealing a frame in pieces, and checking a received one in pieces.
 
 use crate::{raw, wipe, Kid, Metadata, Refusal, Store, StoreView};

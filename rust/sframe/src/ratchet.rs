@@ -1,3 +1,4 @@
+// SPDX-License-Identifier: MIT
 //! Sender keys that are ratcheted forward: RFC 9605, section 5.1.
 
 use crate::{raw, Kid, Refusal, Suite};

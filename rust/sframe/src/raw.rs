@@ -1,3 +1,4 @@
+// SPDX-License-Identifier: MIT
 //! The C functions over slices, with their answers as bare numbers: 0 for done
 //! or the number of a refusal.
 //!

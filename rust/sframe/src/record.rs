@@ -1,3 +1,4 @@
+// SPDX-License-Identifier: MIT
 //! What the records of a store say besides their keys.
 
 use crate::limits::RECORD;

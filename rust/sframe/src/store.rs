@@ -1,3 +1,4 @@
+// SPDX-License-Identifier: MIT
 //! The store of keys in lent bytes.
 
 #[cfg(feature = "alloc")]

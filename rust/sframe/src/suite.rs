@@ -1,3 +1,4 @@
+// SPDX-License-Identifier: MIT
 //! The cipher suites and their sizes.
 
 use crate::Refusal;

@@ -1,3 +1,4 @@
+// SPDX-License-Identifier: MIT
 //! The version of what is linked.
 
 use crate::raw;

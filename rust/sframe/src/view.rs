@@ -1,3 +1,4 @@
+// SPDX-License-Identifier: MIT
 //! A store that is only read: finding, reporting and listing.
 
 use crate::record::{self, Place, Record};

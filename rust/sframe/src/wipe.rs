@@ -1,3 +1,4 @@
+// SPDX-License-Identifier: MIT
 //! Overwriting bytes that were secret.
 
 use core::sync::atomic::{compiler_fence, Ordering};

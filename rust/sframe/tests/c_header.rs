@@ -1,7 +1,9 @@
+// SPDX-License-Identifier: MIT
 //! The numbers of `include/sframe.h` are the wrapper's.
 
 use sframe::*;
 use std::collections::HashMap;
+use testkit::answer_texts;
 
 /// Every name of the header that stands for a number.
 fn constants() -> HashMap<&'static str, u64> {
@@ -88,17 +90,8 @@ fn sizes() {
 #[test]
 fn texts() {
     let header = include_str!("../../../include/sframe.h");
-    let (_, function) = header.split_once("*sframe_answer_text(").unwrap();
-    let said: Vec<&str> = function.split("return \"").skip(1).collect();
-    let texts = Refusal::ALL.map(|refusal| refusal.to_string());
-    let expected = ["done"].into_iter().chain(texts.iter().map(|text| &**text));
-    assert_eq!(said.len(), Refusal::ALL.len() + 2);
-    for (said, expected) in said.into_iter().zip(expected.chain(["unknown answer"])) {
-        assert_eq!(
-            said.split_once("\";\n").map(|(text, _)| text),
-            Some(expected)
-        );
-    }
+    let shown = Refusal::ALL.map(|refusal| refusal.to_string());
+    assert_eq!(answer_texts(header, "sframe_answer_text"), shown);
 }
 
 /// Header, archive and package are of one version.

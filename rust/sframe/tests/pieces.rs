@@ -1,3 +1,4 @@
+// SPDX-License-Identifier: MIT
 //! Frames in pieces by the typed calls, beside the whole ones.
 
 use sframe::{

@@ -1,3 +1,4 @@
+// SPDX-License-Identifier: MIT
 //! An owned store is wiped before its memory is given back, whatever becomes of
 //! it. The allocator looks at what it gets back.
 

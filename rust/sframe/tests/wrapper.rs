@@ -1,3 +1,4 @@
+// SPDX-License-Identifier: MIT
 //! The typed calls, beside the raw ones that they stand on.
 
 use reference::record::{Record, State as ReferenceState};

@@ -1,3 +1,4 @@
+// SPDX-License-Identifier: MIT
 //! Every combination of several choices.
 
 /// Each way to take one number below each of `sizes`.

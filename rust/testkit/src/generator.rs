@@ -1,3 +1,4 @@
+// SPDX-License-Identifier: MIT
 //! A small seeded generator: SplitMix64 (Steele, Lea, Flood, 2014). Good
 //! enough to pick test inputs, and for nothing else.
 

@@ -1,3 +1,4 @@
+// SPDX-License-Identifier: MIT
 //! Rooms lent to a call for its output.
 
 /// What a lent room holds before a call.

@@ -1,3 +1,4 @@
+// SPDX-License-Identifier: MIT
 //! The published vectors of SFrame: headers from the table that the layer's own
 //! program runs, key numbers of a group from a figure, the others from the tables in
 //! `reference/data`.

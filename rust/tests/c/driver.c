@@ -1,3 +1,4 @@
+/* SPDX-License-Identifier: MIT */
 /*
  * Makes the calls that arrive on standard input and answers on standard output, so that a library built for another
  * processor can be compared from outside. src/layer.rs is the other end. Numbers are little-endian.

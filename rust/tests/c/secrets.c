@@ -1,3 +1,4 @@
+/* SPDX-License-Identifier: MIT */
 /*
  * Adds, seals and opens under every suite, and seals and checks in pieces, with secrets marked as undefined, so that
  * valgrind tells of each address and each branch that depends on one. scripts/secrets builds and runs it, and judges what

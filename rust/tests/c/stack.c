@@ -1,3 +1,4 @@
+/* SPDX-License-Identifier: MIT */
 /*
  * Prints how much stack each call takes at most: it is made on a stack of its own that was filled with a pattern, on the
  * longest inputs and a store of 1,024 records, and what a call that does nothing takes is left out. Suite 3 is suite 1 with

@@ -1,3 +1,4 @@
+// SPDX-License-Identifier: MIT
 //! One call on a store, made on both sides.
 
 use crate::layer;

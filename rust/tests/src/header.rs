@@ -1,3 +1,4 @@
+// SPDX-License-Identifier: MIT
 //! The header calls on both sides.
 
 use crate::layer;

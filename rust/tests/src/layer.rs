@@ -1,3 +1,4 @@
+// SPDX-License-Identifier: MIT
 //! The layer that is compared: the linked one, or, where `SFRAME_DRIVER` holds a
 //! command, a program that has another build of it linked (`c/driver.c`). Each
 //! thread starts that program once, and makes its calls by it.

@@ -1,3 +1,4 @@
+// SPDX-License-Identifier: MIT
 //! Bytes lent to a call, with margins that the call must not touch.
 
 use testkit::PATTERN;

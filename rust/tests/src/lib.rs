@@ -1,3 +1,4 @@
+// SPDX-License-Identifier: MIT
 //! The sealing layer beside the reference: each function here makes one call
 //! on both and compares all that the call answers and leaves.
 
@@ -21,6 +22,11 @@ pub use stores::{
     after, done, frame, frame_with, made, retire, set_counter, set_window, spend, window, with_key,
     Key, ANY_KEY, COUNTER_AT, LAYOUT_AT, RECEIVE_ONLY, SPENT_AT, WINDOW_AT,
 };
+
+// The examples of the guide are run.
+#[cfg(doctest)]
+#[doc = include_str!("../../../docs/INTEGRATION.md")]
+struct Guide;
 
 /// The numbers of the refusals.
 pub mod number {

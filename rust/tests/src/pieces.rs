@@ -1,3 +1,4 @@
+// SPDX-License-Identifier: MIT
 //! One call of a line, sealing or checking in pieces, made on both sides.
 
 use crate::layer;

@@ -1,3 +1,4 @@
+// SPDX-License-Identifier: MIT
 //! The two calls of the ratchet on both sides.
 
 use crate::layer;

@@ -1,3 +1,4 @@
+// SPDX-License-Identifier: MIT
 //! Stores and frames for the tests.
 
 use crate::number::{DONE, SENDING_BARRED};

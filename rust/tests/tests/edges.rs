@@ -1,3 +1,4 @@
+// SPDX-License-Identifier: MIT
 //! The edges of every size and number, from the last that is accepted to the
 //! first that is refused.
 

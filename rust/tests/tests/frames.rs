@@ -1,3 +1,4 @@
+// SPDX-License-Identifier: MIT
 //! Frames that were changed on their way. Whatever is refused has left the
 //! room as it was, which each comparison checks.
 

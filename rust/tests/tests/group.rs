@@ -1,3 +1,4 @@
+// SPDX-License-Identifier: MIT
 //! Key numbers of an MLS group, and the change of its epoch.
 
 use comparison::number::*;

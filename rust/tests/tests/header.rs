@@ -1,3 +1,4 @@
+// SPDX-License-Identifier: MIT
 //! Headers: written and read by the sealing layer and by the reference.
 
 use comparison::number::{BAD_HEADER, DONE, ROOM_SHORT};

@@ -1,3 +1,4 @@
+// SPDX-License-Identifier: MIT
 //! Long lists of calls from fixed seeds, each call compared with the reference.
 //!
 //! Two terminals talk to each other; each has its own store and its own list of

@@ -1,3 +1,4 @@
+// SPDX-License-Identifier: MIT
 //! The program `log_check` beside the reference, on logs that are piped into
 //! it: what it writes, to the byte.
 

@@ -1,3 +1,4 @@
+// SPDX-License-Identifier: MIT
 //! A null pointer is allowed wherever the length beside it is 0.
 
 use comparison::number::*;

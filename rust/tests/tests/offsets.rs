@@ -1,3 +1,4 @@
+// SPDX-License-Identifier: MIT
 //! Results at an offset in the room: what stands before and behind them stays,
 //! and a room that ends too early, or before the offset, is short.
 

@@ -1,3 +1,4 @@
+// SPDX-License-Identifier: MIT
 //! Keys stand by rising key number, in whatever order they are added: adding
 //! puts a record in between, and removing a receiving key closes the gap.
 

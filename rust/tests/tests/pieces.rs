@@ -1,3 +1,4 @@
+// SPDX-License-Identifier: MIT
 //! Sealing and checking in pieces: cuts, edges, running states of every kind, and
 //! lines of calls side by side.
 

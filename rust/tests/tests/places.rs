@@ -1,3 +1,4 @@
+// SPDX-License-Identifier: MIT
 //! Where a caller believes a record to be: any number may be handed in, and
 //! none alters what a call answers and leaves.
 

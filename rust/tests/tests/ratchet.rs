@@ -1,3 +1,4 @@
+// SPDX-License-Identifier: MIT
 //! Base keys that are walked forward, and the key numbers of their steps.
 
 use comparison::number::*;

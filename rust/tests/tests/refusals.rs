@@ -1,3 +1,4 @@
+// SPDX-License-Identifier: MIT
 //! Every refusal of every call, alone and together with each other cause that
 //! can hold at the same time: the answer is the first in the call's order.
 //!

@@ -1,3 +1,4 @@
+// SPDX-License-Identifier: MIT
 //! Stores that break one rule: every call that uses the store answers that it
 //! is not sound, whatever else is wrong, and changes nothing.
 

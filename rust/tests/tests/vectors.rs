@@ -1,3 +1,4 @@
+// SPDX-License-Identifier: MIT
 //! The published SFrame cases, through the calls of the store alone.
 
 use comparison::{done, made, with_key, Call, Key};

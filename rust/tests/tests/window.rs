@@ -1,3 +1,4 @@
+// SPDX-License-Identifier: MIT
 //! No frame is opened twice: what a key remembers of the counters that it has
 //! opened, and what it answers to a frame that comes again or comes late.
 

@@ -1,3 +1,4 @@
+// SPDX-License-Identifier: MIT
 //! Why a store is not sound, in words. The layer judges; this only explains.
 
 use sframe::{Suite, MAX_COUNTER, MAX_RECORDS, RECORD};

@@ -1,3 +1,4 @@
+// SPDX-License-Identifier: MIT
 //! Why a run fails, and with which exit status.
 
 use sframe::Refusal;

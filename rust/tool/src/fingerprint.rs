@@ -1,3 +1,4 @@
+// SPDX-License-Identifier: MIT
 //! What two ends compare to see that they hold the same key.
 
 use sframe::{ratchet_to_vec, Record, State, RECORD};

@@ -1,3 +1,4 @@
+// SPDX-License-Identifier: MIT
 //! What `list` shows of a store.
 
 use crate::fingerprint;

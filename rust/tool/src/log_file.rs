@@ -1,3 +1,4 @@
+// SPDX-License-Identifier: MIT
 //! A log of sealings in a file: of each frame its key number and counter, 8
 //! bytes each, big-endian.
 

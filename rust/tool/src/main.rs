@@ -1,3 +1,4 @@
+// SPDX-License-Identifier: MIT
 //! `sframe`: seals and opens frames with a store of keys in a file.
 
 mod arguments;

@@ -1,3 +1,4 @@
+// SPDX-License-Identifier: MIT
 //! The commands that stream: a frame of any length passes through one small
 //! buffer, and is never held as a whole.
 

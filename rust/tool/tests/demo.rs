@@ -1,3 +1,4 @@
+// SPDX-License-Identifier: MIT
 //! The demonstration runs through and shows every suite and every refusal.
 
 use sframe::{Refusal, Suite};

@@ -1,3 +1,4 @@
+// SPDX-License-Identifier: MIT
 //! The command-line tool as a whole, run as a process.
 
 mod tool {

@@ -1,3 +1,4 @@
+// SPDX-License-Identifier: MIT
 //! The standard streams: what a run says, and whether a person reads it.
 
 use crate::fault::Fault;

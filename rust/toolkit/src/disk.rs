@@ -1,3 +1,4 @@
+// SPDX-License-Identifier: MIT
 //! The steps on a disk by which files are replaced, one by one, so that tests
 //! can stop between any two of them.
 

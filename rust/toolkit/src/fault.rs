@@ -1,3 +1,4 @@
+// SPDX-License-Identifier: MIT
 //! What can go wrong before or beside a call, with the exit status.
 
 use std::fmt;

@@ -1,3 +1,4 @@
+// SPDX-License-Identifier: MIT
 //! Hexadecimal text.
 
 /// The bytes that `text` writes in hex; `None` where it is no hex.

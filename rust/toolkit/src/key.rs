@@ -1,3 +1,4 @@
+// SPDX-License-Identifier: MIT
 //! Keys in files: read with warnings, made at random.
 
 use crate::console::note;

@@ -1,3 +1,4 @@
+// SPDX-License-Identifier: MIT
 //! What the command-line tools `sframe` and `moq` share: how a command line is
 //! read, how files are read, locked and replaced, and how help is shown.
 //!

@@ -1,3 +1,4 @@
+// SPDX-License-Identifier: MIT
 //! A result that is written whole or not at all.
 
 use crate::console::{give, Console};

@@ -1,3 +1,4 @@
+// SPDX-License-Identifier: MIT
 //! Help, manual page and completions, made from what a tool offers.
 
 use crate::spec::{Spec, Takes, Tool};

@@ -1,3 +1,4 @@
+// SPDX-License-Identifier: MIT
 //! Where bytes come from and where they go.
 
 use crate::fault::Fault;

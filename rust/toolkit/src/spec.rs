@@ -1,3 +1,4 @@
+// SPDX-License-Identifier: MIT
 //! What a tool offers: its commands with their options and texts. The parser,
 //! the help, the manual page and the completions are made from it.
 

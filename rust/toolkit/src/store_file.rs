@@ -1,3 +1,4 @@
+// SPDX-License-Identifier: MIT
 //! A store in a file, or another file that runs change one after the other.
 
 use crate::console::note;
@@ -159,8 +160,10 @@ impl StoreFile {
         owner: Option<Owner>,
     ) -> Result<(), Fault> {
         if let Some(owner) = owner {
-            disk.give_to(file, owner)
-                .map_err(|error| Fault::unfit(&self.path, cannot_keep(self.what, owner, &error)))?;
+            disk.give_to(file, owner).map_err(|error| {
+                let text = format!("the {} is not changed, as it", self.what);
+                Fault::unfit(&self.path, cannot_be(&text, owner, &error))
+            })?;
         }
         disk.write(file, bytes)
             .and_then(|()| disk.sync(file))
@@ -181,9 +184,9 @@ impl StoreFile {
     }
 }
 
-fn cannot_keep(what: &str, owner: Owner, error: &io::Error) -> String {
+fn cannot_be(text: &str, owner: Owner, error: &io::Error) -> String {
     let Owner { user, group, mode } = owner;
-    format!("not changed, as the {what} could not stay with user {user}, group {group}, mode {mode:03o}: {error}")
+    format!("{text} could not stay with user {user}, group {group}, mode {mode:03o}: {error}")
 }
 
 /// Opens a lock. One that is not there yet appears at once with its owner and
@@ -209,8 +212,10 @@ fn open_lock(path: &Path, temporary: &Path, owner: Option<Owner>) -> io::Result<
         let options = options.read(true).write(true).create_new(true);
         let file = options.mode(PRIVATE).open(temporary)?;
         let made = match owner {
-            Some(owner) => disk::give_to(&file, owner)
-                .map_err(|error| io::Error::other(cannot_keep("lock", owner, &error))),
+            Some(owner) => disk::give_to(&file, owner).map_err(|error| {
+                let text = "nothing is changed, as store and lock";
+                io::Error::other(cannot_be(text, owner, &error))
+            }),
             None => Ok(()),
         };
         let made = made.and_then(|()| disk::rename_new(temporary, path));

@@ -1,3 +1,4 @@
+// SPDX-License-Identifier: MIT
 //! The words of a command line. None that may be a key by mistake is repeated
 //! in a message.
 

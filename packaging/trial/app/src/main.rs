@@ -1,3 +1,4 @@
+// SPDX-License-Identifier: MIT
 //! A program outside the repository, with both packages.
 
 use sframe::{FrameReader, Kid, Metadata, OwnedStore, Refusal, Role, Suite};

@@ -1,3 +1,4 @@
+// SPDX-License-Identifier: MIT
 //! A library for C that needs neither the standard library nor an allocator.
 
 #![no_std]

@@ -1,3 +1,4 @@
+// SPDX-License-Identifier: MIT
 //! A publisher and a subscriber with a relay in between: a short demonstration.
 
 use moq::{KeyId, Location, Properties, Refusal, Role, Suite, Track, TrackStore, RECORD};

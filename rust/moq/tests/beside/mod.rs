@@ -1,3 +1,4 @@
+// SPDX-License-Identifier: MIT
 //! Each call made on the layer and on the reference, and all that they answer
 //! and leave compared.
 

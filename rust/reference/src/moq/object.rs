@@ -1,3 +1,4 @@
+// SPDX-License-Identifier: MIT
 //! Keys, associated data and nonce of an object.
 
 use crate::hkdf;

@@ -1,3 +1,4 @@
+// SPDX-License-Identifier: MIT
 //! The track store in lent bytes, and the calls on it.
 //!
 //! Each call tries its causes of refusal in the order in which its comment

@@ -1,3 +1,4 @@
+// SPDX-License-Identifier: MIT
 //! One record of the track store: the 344 bytes of `docs/TRACKS.md`.
 
 use super::object::derive_key_salt;

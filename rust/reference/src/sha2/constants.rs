@@ -1,3 +1,4 @@
+// SPDX-License-Identifier: MIT
 //! The constants of FIPS 180-4: the first bits of the fractional parts of roots
 //! of primes.
 

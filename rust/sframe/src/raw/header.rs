@@ -1,3 +1,4 @@
+// SPDX-License-Identifier: MIT
 //! The header calls.
 
 use super::{Written, UNSET};

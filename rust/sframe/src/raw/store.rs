@@ -1,3 +1,4 @@
+// SPDX-License-Identifier: MIT
 //! The calls on a store.
 
 use super::{Written, UNSET};

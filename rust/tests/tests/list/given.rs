@@ -1,3 +1,4 @@
+// SPDX-License-Identifier: MIT
 //! What a call is given, at random: mostly what it accepts, often an edge, and
 //! at times what it must refuse.
 

@@ -1,3 +1,4 @@
+// SPDX-License-Identifier: MIT
 //! What lists of calls are made of.
 
 mod given;

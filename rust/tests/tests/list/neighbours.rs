@@ -1,3 +1,4 @@
+// SPDX-License-Identifier: MIT
 //! Sealing and opening under one key number see the other records only through
 //! soundness: with any other sound neighbours, wherever the record then stands,
 //! the same call gives the same answer and the same new record, and no neighbour

@@ -1,3 +1,4 @@
+// SPDX-License-Identifier: MIT
 //! Stores at random: sound ones of any content, and damaged ones.
 
 use comparison::{set_window, LAYOUT_AT, WINDOW_AT};

@@ -1,3 +1,4 @@
+// SPDX-License-Identifier: MIT
 //! How often each call answered each number.
 
 use comparison::number::*;

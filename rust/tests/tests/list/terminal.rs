@@ -1,3 +1,4 @@
+// SPDX-License-Identifier: MIT
 //! A terminal: its store, its list of calls since the store was made, and the
 //! frames on their way to it.
 

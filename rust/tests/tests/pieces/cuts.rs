@@ -1,3 +1,4 @@
+// SPDX-License-Identifier: MIT
 //! However a plaintext is cut, the frame is that of the whole.
 
 use super::line::{check, cut, receiver, seal, sender, KID};

@@ -1,3 +1,4 @@
+// SPDX-License-Identifier: MIT
 //! The edges of every size and number of the six calls, and the order of their
 //! causes.
 

@@ -1,3 +1,4 @@
+// SPDX-License-Identifier: MIT
 //! Whole lines of calls.
 
 use comparison::number::DONE;

@@ -1,3 +1,4 @@
+// SPDX-License-Identifier: MIT
 //! Lists of calls on one store in which lines run side by side with whole
 //! sealings, addings and removals.
 

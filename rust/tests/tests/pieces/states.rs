@@ -1,3 +1,4 @@
+// SPDX-License-Identifier: MIT
 //! Running states of every kind: every byte string of every length gets an
 //! answer.
 

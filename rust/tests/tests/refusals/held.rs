@@ -1,3 +1,4 @@
+// SPDX-License-Identifier: MIT
 //! Stores that hold one key number in one way or another.
 
 use comparison::{made, retire, spend, with_key, Key, LAYOUT_AT};

@@ -1,3 +1,4 @@
+// SPDX-License-Identifier: MIT
 //! Open.
 
 use super::held::{make_unsound, store, Held, HELD, KID};

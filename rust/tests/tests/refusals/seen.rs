@@ -1,3 +1,4 @@
+// SPDX-License-Identifier: MIT
 //! Which causes were seen, and in which company.
 
 use comparison::number::DONE;

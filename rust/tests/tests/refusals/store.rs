@@ -1,3 +1,4 @@
+// SPDX-License-Identifier: MIT
 //! Add, Remove, the change of epoch, Find, Seal and the report.
 
 use super::held::{make_unsound, store, Held, HELD, KID};

@@ -1,3 +1,4 @@
+// SPDX-License-Identifier: MIT
 //! Command lines.
 
 use crate::arguments::{Command, Streams};

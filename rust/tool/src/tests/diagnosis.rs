@@ -1,3 +1,4 @@
+// SPDX-License-Identifier: MIT
 //! The words for what is wrong agree with the layer's judgement.
 
 use crate::diagnosis;

@@ -1,3 +1,4 @@
+// SPDX-License-Identifier: MIT
 //! Runs that are killed, or cut off from power, between any two steps: no
 //! counter under which a frame was given out comes again, and no picture that was
 //! given out is given out again.

@@ -1,3 +1,4 @@
+// SPDX-License-Identifier: MIT
 //! A disk in memory that can be stopped at any step, and that forgets at a
 //! power cut what was not synced.
 

@@ -1,3 +1,4 @@
+// SPDX-License-Identifier: MIT
 //! Tests of the parts, and of what a whole run cannot show.
 
 mod arguments;

@@ -1,3 +1,4 @@
+// SPDX-License-Identifier: MIT
 //! What the tool says that it offers is what it reads.
 
 use crate::arguments::Command;

@@ -1,3 +1,4 @@
+// SPDX-License-Identifier: MIT
 //! The machine's own disk, where a whole run cannot show it.
 
 use std::fs;

@@ -1,3 +1,4 @@
+// SPDX-License-Identifier: MIT
 //! What goes to a terminal, and what does not.
 
 use super::memory_disk::MemoryDisk;

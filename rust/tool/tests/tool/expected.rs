@@ -1,3 +1,4 @@
+// SPDX-License-Identifier: MIT
 //! What people expect of a tool.
 
 use super::folder::{done, Folder};

@@ -1,3 +1,4 @@
+// SPDX-License-Identifier: MIT
 //! A folder of its own for each test, and runs of the tool in it.
 
 use reference::record::{Record, State};

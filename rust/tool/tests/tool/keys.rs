@@ -1,3 +1,4 @@
+// SPDX-License-Identifier: MIT
 //! Keys: made, warned of, compared, and never shown.
 
 use super::folder::Folder;

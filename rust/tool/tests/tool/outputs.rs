@@ -1,3 +1,4 @@
+// SPDX-License-Identifier: MIT
 //! Where results go: no file is lost, and no counter for a result that has no
 //! place.
 

@@ -1,3 +1,4 @@
+// SPDX-License-Identifier: MIT
 //! The manual page and the completions that the package brings.
 
 use super::folder::Folder;

@@ -1,3 +1,4 @@
+// SPDX-License-Identifier: MIT
 //! Sealing and checking in pieces.
 
 use super::folder::{done, fails, Folder};

@@ -1,3 +1,4 @@
+// SPDX-License-Identifier: MIT
 //! Each refusal as exit status and message, with the store left as it was.
 
 use super::folder::{done, fails, Folder};

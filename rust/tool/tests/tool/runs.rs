@@ -1,3 +1,4 @@
+// SPDX-License-Identifier: MIT
 //! What the tool does when all is well, and when the caller is wrong.
 
 use super::folder::{done, fails, Folder};

@@ -1,3 +1,4 @@
+// SPDX-License-Identifier: MIT
 //! Stores and their locks: owner, mode, waiting, and what is no store.
 
 use super::folder::Folder;

@@ -1,3 +1,4 @@
+// SPDX-License-Identifier: MIT
 //! Several runs at once, and runs that are killed: every frame that was given
 //! out has a counter of its own, and no picture is given out twice.
 

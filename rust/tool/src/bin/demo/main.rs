@@ -1,3 +1,4 @@
+// SPDX-License-Identifier: MIT
 //! A ward round: the ward's terminal seals pictures under key number 200 and
 //! the doctor's opens them, under each suite; then each refusal once; then what
 //! removing a key does.

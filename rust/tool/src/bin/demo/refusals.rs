@@ -1,3 +1,4 @@
+// SPDX-License-Identifier: MIT
 //! Each refusal once.
 
 use crate::{refusal, BASE_KEY, KID};

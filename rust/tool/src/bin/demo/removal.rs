@@ -1,3 +1,4 @@
+// SPDX-License-Identifier: MIT
 //! What becomes of a key that is removed.
 
 use crate::{refusal, BASE_KEY, KID};

@@ -1,3 +1,4 @@
+// SPDX-License-Identifier: MIT
 //! Frames sealed at one end and opened at the other.
 
 use crate::{hex, BASE_KEY, KID};
