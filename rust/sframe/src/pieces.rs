@@ -189,6 +189,7 @@ impl Sealing {
     /// # Ok(())
     /// # }
     /// ```
+    #[allow(clippy::result_large_err)] // the line itself comes back
     pub fn end(self, room: &mut [u8]) -> Result<usize, NotEnded<Sealing>> {
         let written = raw::seal_end(&self.0 .0, room);
         Refusal::check(written.number, written.length).map_err(|refusal| NotEnded {
@@ -214,6 +215,7 @@ impl Checking {
     /// are missing, [`FrameShort`](Refusal::FrameShort) where the tag is not just as
     /// long as the suite's, [`TagDiffers`](Refusal::TagDiffers). All of them give the
     /// line back.
+    #[allow(clippy::result_large_err)] // as above
     pub fn end(self, tag: &[u8]) -> Result<(), NotEnded<Checking>> {
         Refusal::check(raw::check_end(&self.0 .0, tag), ()).map_err(|refusal| NotEnded {
             refusal,

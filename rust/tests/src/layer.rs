@@ -99,8 +99,7 @@ impl Driver {
         which: Which,
         numbers: &[u64],
         store: &mut [u8],
-        first: &[u8],
-        second: &[u8],
+        [first, second]: [&[u8]; 2],
         room: &mut [u8],
         state: &mut [u8],
     ) -> Answer {
@@ -170,10 +169,9 @@ fn driven_on(
     room: &mut [u8],
     state: &mut [u8],
 ) -> Option<Answer> {
-    let [first, second] = strings;
     DRIVER.with_borrow_mut(|driver| {
         let driver = driver.as_mut()?;
-        Some(driver.call(which, numbers, store, first, second, room, state))
+        Some(driver.call(which, numbers, store, strings, room, state))
     })
 }
 

@@ -21,8 +21,7 @@ fn frames_of_the_whole() {
     for suite in 1..=5 {
         let folder = Folder::with_stores(&format!("pieces-{suite}"), suite);
         folder.write("about", b"ward 3");
-        let mut counter = 0;
-        for size in SIZES {
+        for (counter, size) in SIZES.into_iter().enumerate() {
             let plaintext = picture(size);
             folder.write("picture", &plaintext);
             folder.write("copy", &folder.read("ward"));
@@ -46,7 +45,6 @@ fn frames_of_the_whole() {
             folder.done("open doctor --in frame --out opened --metadata about --force");
             assert_eq!(folder.read("opened"), plaintext);
             assert_eq!(folder.done(&format!("{check} --in frame")), said(counter));
-            counter += 1;
         }
     }
 }
