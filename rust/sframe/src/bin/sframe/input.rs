@@ -45,28 +45,8 @@ impl Place {
         hex::decode(&digits).ok_or_else(|| Failure::NotHex(self.name()))
     }
 
-    /// For reading it piece by piece.
-    pub fn open(&self) -> Result<Box<dyn BufRead>, Failure> {
-        self.source().map_err(self.failed())
-    }
-
-    /// The length of a regular file; a stream, a pipe or a device has none yet.
-    pub fn size(&self) -> Result<Option<u64>, Failure> {
-        match self {
-            Place::Standard => Ok(None),
-            Place::File(path) => {
-                let metadata = path.metadata().map_err(self.failed())?;
-                Ok(metadata.is_file().then_some(metadata.len()))
-            }
-        }
-    }
-
-    /// For `map_err`: reading it failed.
-    pub fn failed(&self) -> impl FnOnce(io::Error) -> Failure + '_ {
-        |error| Failure::io(self.name(), error)
-    }
-
-    fn source(&self) -> io::Result<Box<dyn BufRead>> {
+    /// For reading it.
+    pub fn source(&self) -> io::Result<Box<dyn BufRead>> {
         match self {
             Place::Standard => Ok(Box::new(io::stdin().lock())),
             Place::File(path) => Ok(Box::new(BufReader::new(File::open(path)?))),
@@ -85,7 +65,8 @@ impl Place {
         })
     }
 
-    fn name(&self) -> String {
+    /// What it is called in messages, as an input.
+    pub fn name(&self) -> String {
         match self {
             Place::Standard => "standard input".into(),
             Place::File(path) => format!("{path:?}"),

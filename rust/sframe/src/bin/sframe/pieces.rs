@@ -9,7 +9,7 @@ use crate::log_file::LogFile;
 use crate::store_file::StoreFile;
 use sframe::{read_header, Kid, Metadata, Refusal, Sealing, Store, StoreView, MAX_HEADER};
 use std::fs::{self, File};
-use std::io::{self, Read, Write};
+use std::io::{self, BufRead, Read, Write};
 use std::path::{Path, PathBuf};
 
 /// The longest piece.
@@ -57,11 +57,11 @@ pub fn seal(command: &SealPieces, disk: &mut impl Disk) -> Result<(), Failure> {
             Some((log, log.lock()?, log.read(disk)?))
         }
     };
-    let length = match (command.length, command.input.size()?) {
+    let length = match (command.length, size_of(&command.input)?) {
         (Some(length), _) | (None, Some(length)) => length,
         (None, None) => return Err(Failure::usage("--length is missing: the input is no file")),
     };
-    let mut input = command.input.open()?;
+    let mut input = open(&command.input)?;
     let metadata = read_metadata(&command.metadata)?;
 
     NewFile::beside(&command.output)?.fill(|frame| {
@@ -88,7 +88,7 @@ fn write_frame(
     output.write(header)?;
     let (mut piece, mut room) = ([0; PIECE], [0; PIECE]);
     loop {
-        let length = input.read(&mut piece).map_err(place.failed())?;
+        let length = input.read(&mut piece).map_err(failed(place))?;
         if length == 0 {
             break;
         }
@@ -105,10 +105,10 @@ pub fn check(command: &Check, disk: &mut impl Disk, out: &mut impl Write) -> Res
     let bytes = StoreFile::at(&command.store)?.read(disk)?;
     let store = StoreView::over(&bytes);
     let metadata = read_metadata(&command.metadata)?;
-    let size = command.input.size()?;
+    let size = size_of(&command.input)?;
     let place = &command.input;
-    let mut input = place.open()?;
-    let start = read_start(&mut input).map_err(place.failed())?;
+    let mut input = open(place)?;
+    let start = read_start(&mut input).map_err(failed(place))?;
 
     let length = match (command.length, size) {
         (Some(length), _) => length,
@@ -127,7 +127,7 @@ pub fn check(command: &Check, disk: &mut impl Disk, out: &mut impl Write) -> Res
     let mut left = length;
     while left > 0 {
         let most = left.min(PIECE as u64) as usize;
-        let taken = input.read(&mut piece[..most]).map_err(place.failed())?;
+        let taken = input.read(&mut piece[..most]).map_err(failed(place))?;
         if taken == 0 {
             break;
         }
@@ -137,7 +137,7 @@ pub fn check(command: &Check, disk: &mut impl Disk, out: &mut impl Write) -> Res
     // One byte more than the longest, so that what is too long is seen to be.
     let mut tag = vec![];
     let mut rest = input.take(MAX_TAG as u64 + 1);
-    rest.read_to_end(&mut tag).map_err(place.failed())?;
+    rest.read_to_end(&mut tag).map_err(failed(place))?;
     checking.end(&tag).map_err(Refusal::from)?;
     let header = read_header(&start)?;
     let (kid, ctr) = (header.kid.0, header.ctr.0);
@@ -145,6 +145,27 @@ pub fn check(command: &Check, disk: &mut impl Disk, out: &mut impl Write) -> Res
         out,
         &format!("key number {kid}, counter {ctr}: the tag matches\n"),
     )
+}
+
+/// An input, for reading it piece by piece.
+fn open(place: &Place) -> Result<Box<dyn BufRead>, Failure> {
+    place.source().map_err(failed(place))
+}
+
+/// The length of a regular file; a stream, a pipe or a device has none yet.
+fn size_of(place: &Place) -> Result<Option<u64>, Failure> {
+    match place {
+        Place::Standard => Ok(None),
+        Place::File(path) => {
+            let metadata = path.metadata().map_err(failed(place))?;
+            Ok(metadata.is_file().then_some(metadata.len()))
+        }
+    }
+}
+
+/// For `map_err`: reading an input failed.
+fn failed(place: &Place) -> impl FnOnce(io::Error) -> Failure + '_ {
+    |error| Failure::io(place.name(), error)
 }
 
 /// The bytes of the header, as far as there are any.
