@@ -18,7 +18,7 @@ ghost use Rattle.sha2.specs.Limits.{maximum};
 ghost use Rattle.sha2.specs.inner.Running.{roomOf};
 ghost use Rattle.sha256.specs.inner.State.{words256, state256};
 ghost use Rattle.ghash.specs.inner.HashKey.{valueOf, HashKey, hashKeyOf};
-ghost use Rattle.piece_hash.specs.Held.{valueSize, roomSize, heldSize, held, kept, fedHash, digestOf, keptBlock, absorbWhole, leftOver, fedBlocks, blocksOf};
+ghost use Rattle.piece_hash.specs.Held.{valueSize, roomSize, heldSize, roomIn, held, kept, fedHash, digestOf, keptBlock, absorbWhole, leftOver, fedBlocks, blocksOf};
 
 // The bytes of a value, and of the value and the room.
 const VALUE: usize = 32;
@@ -142,6 +142,7 @@ fn absorb(t: &HashKey, y: Block, front: &[u8], c: &[u8]) -> Block
 // Writes what is left of the bytes that wait and c after their whole blocks, behind the value y.
 fn save_rest(y: Block, n: usize, c: &[u8], b: &mut [u8])
     requires { ⌜ (length (now b) ≡ heldSize) × (n < blockSize) × (length (now c) < 2 ^ 31) ⌝ }
+    ensures { λ _. ⌜ now (b .exit) ≡ keptBlock (valueOf y) (leftOver (take n (roomIn (now (b .entry))) ++ now (c .entry))) ⌝ }
 {
     let at = VALUE + n;
     if n + c.len() < BLOCK {
