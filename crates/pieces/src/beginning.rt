@@ -17,7 +17,7 @@ ghost use mathlib.Core.Path.{_≡_};
 ghost use mathlib.Core.List.{[], _++_};
 ghost use Prim.Native.Nat.{_≤_};
 ghost use lib.ListN.{length};
-ghost use Rattle.octets.specs.Octets.{pasted};
+ghost use Rattle.octets.specs.Octets.{bytes, pasted};
 ghost use Rattle.header.specs.Header.{maxHeader};
 ghost use Rattle.answers.specs.Limits.{maxPlaintext, maxMetadata};
 ghost use Rattle.suites.specs.Suites.{Nk, Nn, Nt, modeOf};
@@ -25,11 +25,14 @@ ghost use Rattle.suites.specs.inner.Sizes.{maxNt};
 ghost use Rattle.suites.specs.declared.sizes.Mode.the-variants.{CtrHmac, Gcm};
 ghost use Rattle.suites.specs.declared.sizes.Suite.the-variants.{Ctr80};
 ghost use Rattle.piece_hash.specs.Held.{heldSize};
-ghost use Rattle.pieces.specs.State.{stateSize};
-ghost use Rattle.pieces.specs.Line.{hashAfter, begun};
+ghost use Rattle.pieces.specs.State.{stateSize, atKey, keySpace};
+ghost use Rattle.pieces.specs.Line.{front, keyField, hashAfter, begun};
 
 // Where the key of HMAC starts in a key.
 const NKA: usize = 16;
+
+// The bytes that a key has room in.
+const KEY_SPACE: usize = 48;
 
 // Writes the running hash of a suite with HMAC that has taken the associated data.
 fn begin_hmac(
@@ -89,6 +92,28 @@ fn begin_hash(
     }
 }
 
+// Writes kind, suite and counts to the front of a state.
+fn write_front(kind: u8, suite: Suite, aad: usize, announced: usize, state: &mut [u8])
+    requires { ⌜ stateSize ≤ length (now state) ⌝ }
+    ensures { λ _. ⌜ now (state .exit) ≡ pasted (now (state .entry)) 0 (front kind suite aad announced) ⌝ }
+{
+    write_be_at(state, 0, 1, kind as u64);
+    write_be_at(state, SUITE, 1, suite.number());
+    write_be_at(state, AAD, 2, aad as u64);
+    write_be_at(state, ANNOUNCED, 4, announced as u64);
+}
+
+// Writes a key to its place in a state, with zeros behind it, and that nothing is taken.
+fn write_key(key: &[u8], state: &mut [u8])
+    requires { ⌜ (stateSize ≤ length (now state)) × (length (now key) ≤ keySpace) ⌝ }
+    ensures { λ _. ⌜ now (state .exit) ≡ pasted (now (state .entry)) atKey (keyField (now (key .entry)) ++ bytes 4 0) ⌝ }
+{
+    let mut k = [0u8; KEY_SPACE];
+    octets::copy(&mut k, key);
+    copy_at(state, KEY, &k);
+    write_be_at(state, TAKEN, 4, 0);
+}
+
 // Writes the state of a line that begins.
 pub fn begin(
     kind: u8,
@@ -104,13 +129,9 @@ pub fn begin(
     requires { ⌜ (length (now header) ≤ maxHeader) × (length (now metadata) ≤ maxMetadata) × (announced ≤ maxPlaintext) ⌝ }
     ensures { λ _. ⌜ now (state .exit) ≡ pasted (now (state .entry)) 0 (begun kind suite announced (now (nonce .entry)) (now (key .entry)) (now (header .entry) ++ now (metadata .entry))) ⌝ }
 {
-    octets::clear(&mut state[0..STATE_SIZE]);
-    state[0] = kind;
-    write_be_at(state, SUITE, 1, suite.number());
-    write_be_at(state, AAD, 2, (header.len() + metadata.len()) as u64);
-    write_be_at(state, ANNOUNCED, 4, announced as u64);
+    write_front(kind, suite, header.len() + metadata.len(), announced, state);
     copy_at(state, NONCE, nonce);
-    copy_at(state, KEY, key);
+    write_key(key, state);
     begin_hash(
         suite,
         key,

@@ -1,3 +1,9 @@
+use Rattle.pieces.proofs.Steps.{known-possible, first-part, tag-fits}
+use Rattle.pieces.proofs.CallSteps.{within, piece-unknown, piece-past, piece-short, piece-done, end-unknown, end-early, end-short, end-done, check-unknown, check-past, check-done, tag-unknown, tag-early, tag-length, tag-differs, tag-same}
+use Rattle.suites.proofs.Laws.{Nk-most, Nt-most, ctr-sizes, gcm-sizes}
+use Rattle.pieces.specs.State.{sealing, checking, takenIn, announcedIn, aadIn, keyIn, nonceIn, hashIn}
+use native.Mathlib.Omega.{arith}
+use mathlib.Core.Path.{_≡_, refl, sym, _∙_, ap}
 use borrow.Author.Needs.{needs}
 use Rattle.pieces.proofs.check_end.Statement.{statement}
 use Rattle.pieces.proofs.check_end.Tie as tie
@@ -19,22 +25,27 @@ enum-told : tie.Need-enum-told
 enum-told c = search needs
 
 returns : tie.Need-returns
-returns c = search needs
+returns c =
+    tag-unknown (c .before .before .before .before .before .args .state .now) (c .before .before .before .before .before .args .tag .now) _ (c .before .before .line-of .ensures) (c .enum-told .given .1)
 
 is-early-requires : tie.Need-is-early-requires
-is-early-requires c κs = search needs
+is-early-requires c κs =
+    known-possible checking (c .before .before .before .before .before .before .args .state .now) _ _ (c .before .before .before .line-of .ensures) (c .before .suite .given .1) .sized
 
 returns-2 : tie.Need-returns-2
-returns-2 c = search needs
+returns-2 c =
+    tag-early (c .before .before .before .before .before .before .before .before .args .state .now) (c .before .before .before .before .before .before .before .before .args .tag .now) _ (c .before .before .before .before .before .line-of .ensures) _ (c .before .before .before .suite .given .1) _ (c .before .is-early .ensures) (c .if1 .taken)
 
 tag-size-requires : tie.Need-tag-size-requires
 tag-size-requires c κs = search needs
 
 returns-3 : tie.Need-returns-3
-returns-3 c = search needs
+returns-3 c =
+    tag-length (c .before .before .before .before .before .before .before .before .before .before .args .state .now) (c .before .before .before .before .before .before .before .before .before .before .args .tag .now) _ (c .before .before .before .before .before .before .before .line-of .ensures) _ (c .before .before .before .before .before .suite .given .1) _ (c .before .before .before .is-early .ensures) _ (c .before .tag-size .ensures) (c .before .before .if1 .left) (λ z. omega arith)
 
 tag-of-requires : tie.Need-tag-of-requires
-tag-of-requires c κs = search needs
+tag-of-requires c κs =
+    let p = known-possible checking (c .before .before .before .before .before .before .before .before .before .before .args .state .now) _ _ (c .before .before .before .before .before .before .before .line-of .ensures) (c .before .before .before .before .before .suite .given .1) in let w = p .within in let m = p .most in (p .sized, omega arith)
 
 sub-equal : tie.Need-sub-equal
 sub-equal c = search needs
@@ -43,16 +54,21 @@ part-equal-start : tie.Need-part-equal-start
 part-equal-start c = search needs
 
 part-equal-end : tie.Need-part-equal-end
-part-equal-end c = search needs
+part-equal-end c =
+    let w = tag-fits _ _ _ (c .before .before .before .before .before .before .before .suite .given .1) (c .before .before .before .tag-size .ensures) in let l = c .before .tag-of .ensures .1 in omega arith
 
 equal-requires : tie.Need-equal-requires
 equal-requires c κs = search needs
 
 returns-4 : tie.Need-returns-4
-returns-4 c = search needs
+returns-4 c =
+    let s = c .before .before .before .before .before .before .before .before .before .before .before .before .before .before .before .args in
+    tag-differs (s .state .now) (s .tag .now) _ (c .before .before .before .before .before .before .before .before .before .before .before .before .line-of .ensures) _ (c .before .before .before .before .before .before .before .before .before .before .suite .given .1) _ (c .before .before .before .before .before .before .before .before .is-early .ensures) _ (c .before .before .before .before .before .before .tag-size .ensures) (c .before .before .before .before .before .before .before .if1 .left) (omega arith) _ _ (first-part _ _ _ _ (c .before .before .before .before .before .before .tag-size .ensures) (c .before .before .before .before .tag-of .ensures .0)) (c .before .equal .ensures) (c .if3 .taken)
 
 returns-5 : tie.Need-returns-5
-returns-5 c = search needs
+returns-5 c =
+    let s = c .before .before .before .before .before .before .before .before .before .before .before .before .before .before .before .args in
+    tag-same (s .state .now) (s .tag .now) _ (c .before .before .before .before .before .before .before .before .before .before .before .before .line-of .ensures) _ (c .before .before .before .before .before .before .before .before .before .before .suite .given .1) _ (c .before .before .before .before .before .before .before .before .is-early .ensures) _ (c .before .before .before .before .before .before .tag-size .ensures) (c .before .before .before .before .before .before .before .if1 .left) (omega arith) _ _ (first-part _ _ _ _ (c .before .before .before .before .before .before .tag-size .ensures) (c .before .before .before .before .tag-of .ensures .0)) (c .before .equal .ensures) (c .if3 .left)
 
 pub check-end-spec : {M : Type 1} → statement M
 check-end-spec =

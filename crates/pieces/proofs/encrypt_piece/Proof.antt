@@ -1,3 +1,8 @@
+use Rattle.pieces.proofs.Steps.{lent-front, cipher-length, read-back}
+use Rattle.pieces.specs.Line.{cipherPiece, after}
+use lib.ListN.{length, take, drop, length-take, length-drop, length-append}
+use mathlib.Core.Path.{_≡_, refl, sym, _∙_, ap}
+use native.Mathlib.Omega.{arith}
 use borrow.Author.Needs.{needs}
 use Rattle.pieces.proofs.encrypt_piece.Statement.{statement}
 use Rattle.pieces.proofs.encrypt_piece.Tie as tie
@@ -41,7 +46,11 @@ same-length-2 : tie.Need-same-length-2
 same-length-2 c = search needs
 
 returns : tie.Need-returns
-returns c = search needs
+returns c =
+    let s = c .before .before .before .before .before .before .before .before .before .before .before .before .before .before .before .before .before .before in
+    let x = c .before .before .before .before .before .before .before .before .before .cipher-piece .ensures in
+    let l : length (cipherPiece (s .args .suite) (s .args .state .now) (s .args .piece .now)) ≡ length (s .args .piece .now) = cipher-length (s .args .suite) (s .args .state .now) (s .args .piece .now) in
+    (c .before .before .take-in .ensures ∙ ap (after (s .args .suite) (s .args .state .now)) (read-back (s .args .room .now) _ _ (length (s .args .piece .now)) l x), lent-front (s .args .room .now) _ _ (length (s .args .piece .now)) l (s .pre .2) x)
 
 pub encrypt-piece-spec : {M : Type 1} → statement M
 encrypt-piece-spec =

@@ -1,49 +1,32 @@
+use Rattle.pieces.proofs.Begins.{begun-written}
+use mathlib.Core.List.{_++_}
+use lib.ListN.{length, take, drop, length-take, length-drop, length-append}
+use Rattle.suites.proofs.Laws.{Nk-most, Nt-most, ctr-sizes, gcm-sizes}
+use native.Mathlib.Omega.{arith}
+use mathlib.Core.Path.{_≡_, refl, sym, _∙_, ap}
 use borrow.Author.Needs.{needs}
 use Rattle.pieces.proofs.beginning.begin.Statement.{statement}
 use Rattle.pieces.proofs.beginning.begin.Tie as tie
 use Rattle.pieces.proofs.beginning.begin.Reads as reads
 use Rattle.pieces.proofs.beginning.begin.Lts as lts
-use Rattle.octets.proofs.clear.Reads as clear-reads
 use Rattle.octets.proofs.copy_at.Reads as copy-at-reads
-use Rattle.octets.proofs.write_be_at.Reads as write-be-at-reads
 use Rattle.pieces.proofs.beginning.begin_hash.Reads as begin-hash-reads
-use Rattle.suites.proofs.sizes.Suite.number.Reads as number-reads
+use Rattle.pieces.proofs.beginning.write_front.Reads as write-front-reads
+use Rattle.pieces.proofs.beginning.write_key.Reads as write-key-reads
 
-sub-clear : tie.Need-sub-clear
-sub-clear c = search needs
+add-write-front : tie.Need-add-write-front
+add-write-front c = search needs
 
-part-clear-start : tie.Need-part-clear-start
-part-clear-start c = search needs
-
-part-clear-end : tie.Need-part-clear-end
-part-clear-end c = search needs
-
-clear-requires : tie.Need-clear-requires
-clear-requires c κs = search needs
-
-slice-write-state : tie.Need-slice-write-state
-slice-write-state c = search needs
-
-number-requires : tie.Need-number-requires
-number-requires c κs = search needs
-
-write-be-at-requires : tie.Need-write-be-at-requires
-write-be-at-requires c κs = search needs
-
-add-write-be-at : tie.Need-add-write-be-at
-add-write-be-at c = search needs
-
-write-be-at-requires-2 : tie.Need-write-be-at-requires-2
-write-be-at-requires-2 c κs = search needs
-
-write-be-at-requires-3 : tie.Need-write-be-at-requires-3
-write-be-at-requires-3 c κs = search needs
+write-front-requires : tie.Need-write-front-requires
+write-front-requires c κs = search needs
 
 copy-at-requires : tie.Need-copy-at-requires
 copy-at-requires c κs = search needs
 
-copy-at-requires-2 : tie.Need-copy-at-requires-2
-copy-at-requires-2 c κs = search needs
+write-key-requires : tie.Need-write-key-requires
+write-key-requires c κs =
+    let s = c .before .before .before .before .before .before .before .before .before .before .before .before .before .before in
+    (search needs, omega (arith, s .pre .0 .1, Nk-most (s .args .suite)))
 
 sub-begin-hash : tie.Need-sub-begin-hash
 sub-begin-hash c = search needs
@@ -61,24 +44,18 @@ same-length : tie.Need-same-length
 same-length c = search needs
 
 returns : tie.Need-returns
-returns c = search needs
+returns c =
+    let s = c .before .before .before .before .before .before .before .before .before .before .before .before .before .before .before .before .before .before .before .before .before in
+    begun-written (s .args .state .now) _ _ _ _ _ (s .args .key .now) (s .args .nonce .now) (s .args .header .now ++ s .args .metadata .now) (s .args .kind) _ (s .args .announced) (s .args .suite) (s .pre .0 .0) (s .pre .0 .2) (omega (arith, s .pre .0 .1, Nk-most (s .args .suite))) (sym (length-append (s .args .header .now) (s .args .metadata .now))) (c .before .before .before .before .before .before .before .before .before .before .before .before .before .before .write-front .ensures) (c .before .before .before .before .before .before .before .before .before .before .copy-at .ensures) (c .before .before .before .before .before .before .write-key .ensures) (c .before .before .begin-hash .kept .1 .1 .1 .1 .1 .1 .0) (c .before .before .begin-hash .ensures) refl
 
 pub begin-spec : {M : Type 1} → statement M
 begin-spec =
     tie.close
     (tie.spec
-    sub-clear
-    part-clear-start
-    part-clear-end
-    clear-requires
-    slice-write-state
-    number-requires
-    write-be-at-requires
-    add-write-be-at
-    write-be-at-requires-2
-    write-be-at-requires-3
+    add-write-front
+    write-front-requires
     copy-at-requires
-    copy-at-requires-2
+    write-key-requires
     sub-begin-hash
     part-begin-hash-start
     part-begin-hash-end

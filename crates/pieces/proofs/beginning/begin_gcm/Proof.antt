@@ -1,3 +1,7 @@
+use Rattle.pieces.proofs.Begins.{begun-gcm}
+use Rattle.pieces.proofs.Steps.{ready}
+use native.Mathlib.Omega.{arith}
+use mathlib.Core.Path.{_≡_, refl, sym, _∙_, ap}
 use borrow.Author.Needs.{needs}
 use Rattle.pieces.proofs.beginning.begin_gcm.Statement.{statement}
 use Rattle.pieces.proofs.beginning.begin_gcm.Tie as tie
@@ -19,7 +23,8 @@ context-requires : tie.Need-context-requires
 context-requires c κs = search needs
 
 hash-key-requires : tie.Need-hash-key-requires
-hash-key-requires c κs = search needs
+hash-key-requires c κs =
+    (ready _ _ (c .before .before .context .ensures), c .before .before .before .before .before .before .before .before .before .before .pre .0 .2)
 
 absorb-requires : tie.Need-absorb-requires
 absorb-requires c κs = search needs
@@ -34,7 +39,9 @@ same-length : tie.Need-same-length
 same-length c = search needs
 
 returns : tie.Need-returns
-returns c = search needs
+returns c =
+    let s = c .before .before .before .before .before .before .before .before .before .before .before .before .before .before .before .before .before .before in
+    begun-gcm _ _ (s .args .key .now) _ _ _ (s .args .nonce .now) (s .args .suite) _ 0 0 (s .pre .0 .1) (s .pre .0 .0) (c .before .before .before .before .before .before .before .before .before .before .context .ensures) (c .before .before .before .before .before .before .before .hash-key .ensures) (c .before .before .before .before .before .absorb .ensures) refl (c .before .before .save-block .ensures)
 
 pub begin-gcm-spec : {M : Type 1} → statement M
 begin-gcm-spec =

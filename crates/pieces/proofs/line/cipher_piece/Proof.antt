@@ -1,3 +1,7 @@
+use Rattle.pieces.proofs.Steps.{ready, ciphered}
+use lib.Seq.{length-take-le}
+use lib.ListN.{length, take, drop, length-take, length-drop, length-append}
+use native.Mathlib.Omega.{arith}
 use borrow.Author.Needs.{needs}
 use Rattle.pieces.proofs.line.cipher_piece.Statement.{statement}
 use Rattle.pieces.proofs.line.cipher_piece.Tie as tie
@@ -23,13 +27,20 @@ part-apply-from-end : tie.Need-part-apply-from-end
 part-apply-from-end c = search needs
 
 apply-from-requires : tie.Need-apply-from-requires
-apply-from-requires c κs = search needs
+apply-from-requires c κs =
+    let s = c .before .before .before .before .before .before .before in
+    let t = c .before .before .taken-of .ensures in
+    let n = c .before .before .before .first-count .ensures in
+    let m = s .pre .1 .0 in
+    (ready _ _ (s .pre .0 .1), (length-take-le 12 (drop 8 (s .args .state .now)) (rw (length-drop 8 (s .args .state .now)) (omega arith)), (s .pre .1 .1, omega arith)))
 
 same-length : tie.Need-same-length
 same-length c = search needs
 
 returns : tie.Need-returns
-returns c = search needs
+returns c =
+    let s = c .before .before .before .before .before .before .before .before .before .before in
+    ciphered (s .args .state .now) (s .args .ctx .now) (s .args .piece .now) _ (s .args .suite) _ _ (s .pre .0 .1) (c .before .before .before .before .before .before .first-count .ensures .0) (c .before .before .before .before .before .taken-of .ensures .0) (c .before .before .apply-from .ensures)
 
 pub cipher-piece-spec : {M : Type 1} → statement M
 cipher-piece-spec =

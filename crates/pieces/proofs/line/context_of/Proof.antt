@@ -1,3 +1,4 @@
+use Rattle.pieces.proofs.Steps.{context-part}
 use borrow.Author.Needs.{needs}
 use Rattle.pieces.proofs.line.context_of.Statement.{statement}
 use Rattle.pieces.proofs.line.context_of.Tie as tie
@@ -29,7 +30,9 @@ context-requires : tie.Need-context-requires
 context-requires c κs = search needs
 
 returns : tie.Need-returns
-returns c = search needs
+returns c =
+    let s = c .before .before .before .before .before .before .before .args in
+    context-part (s .state .now) _ (s .suite) _ (c .before .before .before .before .before .key-end .ensures .0) (c .before .context .ensures)
 
 pub context-of-spec : {M : Type 1} → statement M
 context-of-spec =

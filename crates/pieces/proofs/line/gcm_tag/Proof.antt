@@ -1,3 +1,9 @@
+use lib.ListN.{replicate}
+use Rattle.pieces.proofs.Steps.{ready, ended-gcm}
+use lib.Seq.{length-take-le}
+use mathlib.Core.Path.{_≡_, refl, sym, _∙_, ap}
+use lib.ListN.{length, take, drop, length-take, length-drop, length-append}
+use native.Mathlib.Omega.{arith}
 use borrow.Author.Needs.{needs}
 use Rattle.pieces.proofs.line.gcm_tag.Statement.{statement}
 use Rattle.pieces.proofs.line.gcm_tag.Tie as tie
@@ -26,7 +32,9 @@ part-front-end : tie.Need-part-front-end
 part-front-end c = search needs
 
 front-requires : tie.Need-front-requires
-front-requires c κs = search needs
+front-requires c κs =
+    let s = c .before .before .before in
+    (ready _ _ (s .pre .1), length-take-le 12 (drop 8 (s .args .state .now)) (rw (length-drop 8 (s .args .state .now)) (omega arith)))
 
 sub-hash-key : tie.Need-sub-hash-key
 sub-hash-key c = search needs
@@ -95,7 +103,9 @@ xor-requires : tie.Need-xor-requires
 xor-requires c κs = search needs
 
 returns : tie.Need-returns
-returns c = search needs
+returns c =
+    let s = c .before .before .before .before .before .before .before .before .before .before .before .before .before .before .before .before .before .before .before .before .before .before in
+    (ended-gcm (s .args .state .now) (s .args .ctx .now) _ _ _ _ (replicate 16 0) (s .args .suite) _ _ _ _ _ _ (s .pre .0 .0) (s .pre .0 .2) (s .pre .1) (c .before .before .before .before .before .before .before .before .before .before .before .before .before .before .before .before .before .before .front .ensures) (c .before .before .before .before .before .before .before .before .before .before .before .before .before .before .before .hash-key .ensures) (c .before .before .before .before .before .before .before .before .before .before .before .aad-of .ensures .0) (c .before .before .before .before .before .before .before .before .before .before .before .before .before .before .before .before .before .before .before .before .taken-of .ensures .0) refl (c .before .before .before .before .before .before .before .before .before .before .before .before .finish-blocks .ensures) (c .before .before .before .before .before .before .before .before .before .plus .ensures) (c .before .before .before .before .before .before .before .before .times .ensures) refl (c .before .before .before .before .before .before .store .ensures) (c .before .xor .ensures), search needs)
 
 pub gcm-tag-spec : {M : Type 1} → statement M
 gcm-tag-spec =

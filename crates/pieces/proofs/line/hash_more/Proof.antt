@@ -1,3 +1,9 @@
+use mathlib.Core.Path.{_≡_, refl, sym, _∙_, ap}
+use Rattle.ghash.proofs.Laws.{hash-key-ready}
+use Rattle.pieces.proofs.Steps.{ready, lent-hash, more-hmac, more-gcm}
+use lib.Seq.{length-take-le}
+use lib.ListN.{length, take, drop, length-take, length-drop, length-append}
+use native.Mathlib.Omega.{arith}
 use borrow.Author.Needs.{needs}
 use Rattle.pieces.proofs.line.hash_more.Statement.{statement}
 use Rattle.pieces.proofs.line.hash_more.Tie as tie
@@ -53,7 +59,9 @@ part-hash-key-end : tie.Need-part-hash-key-end
 part-hash-key-end c = search needs
 
 hash-key-requires : tie.Need-hash-key-requires
-hash-key-requires c κs = search needs
+hash-key-requires c κs =
+    let s = c .before .before .before .before .before .before .before .before .before in
+    (ready _ _ (s .pre .0 .1), length-take-le 12 (drop 8 (s .args .state .now)) (rw (length-drop 8 (s .args .state .now)) (omega arith)))
 
 sub-feed-blocks : tie.Need-sub-feed-blocks
 sub-feed-blocks c = search needs
@@ -65,19 +73,29 @@ part-feed-blocks-end : tie.Need-part-feed-blocks-end
 part-feed-blocks-end c = search needs
 
 feed-blocks-requires : tie.Need-feed-blocks-requires
-feed-blocks-requires c κs = search needs
+feed-blocks-requires c κs =
+    let s = c .before .before .before .before .before .before .before .before .before .before .before .before in
+    (hash-key-ready (c .before .before .hash-key .ensures), (length-take-le 96 (drop 72 (s .args .state .now)) (rw (length-drop 72 (s .args .state .now)) (omega arith)), omega arith, omega arith))
 
 same-length : tie.Need-same-length
 same-length c = search needs
 
 returns : tie.Need-returns
-returns c = search needs
+returns c =
+    let s = c .before .before .before .before .before .before .before .before .before .before .before .before .before in
+    let m = c .before .before .before .before .before .before .before .before .mode in
+    lent-hash (s .args .state .now) _ _ (s .pre .0 .0) (c .before .before .feed .kept .0)
+    (more-hmac (s .args .state .now) (s .args .c .now) _ (s .args .suite) _ _ _ _ (m .ensures) (c .before .before .before .before .before .before .enum-told .given .1) (c .before .before .before .before .aad-of .ensures .0) (c .before .before .before .before .before .before .before .before .before .taken-of .ensures .0) refl (c .before .before .feed .ensures))
 
 same-length-2 : tie.Need-same-length-2
 same-length-2 c = search needs
 
 returns-2 : tie.Need-returns-2
-returns-2 c = search needs
+returns-2 c =
+    let s = c .before .before .before .before .before .before .before .before .before .before .before .before .before .before .before in
+    let m = c .before .before .before .before .before .before .before .before .before .before .mode in
+    lent-hash (s .args .state .now) _ _ (s .pre .0 .0) (c .before .before .feed-blocks .kept .1 .0)
+    (more-gcm (s .args .state .now) (s .args .c .now) _ (s .args .ctx .now) _ (s .args .suite) _ _ _ (s .pre .0 .0) (m .ensures) (c .before .before .before .before .before .before .before .before .enum-told2 .given .1) (s .pre .0 .1) (c .before .before .before .before .before .hash-key .ensures) (c .before .before .before .before .before .before .before .before .before .before .before .taken-of .ensures .0) refl (c .before .before .feed-blocks .ensures))
 
 pub hash-more-spec : {M : Type 1} → statement M
 hash-more-spec =

@@ -1,3 +1,5 @@
+use Rattle.pieces.proofs.Steps.{ended-hmac}
+use mathlib.Core.Path.{_≡_, refl, sym, _∙_, ap}
 use borrow.Author.Needs.{needs}
 use Rattle.pieces.proofs.line.hmac_tag.Statement.{statement}
 use Rattle.pieces.proofs.line.hmac_tag.Tie as tie
@@ -78,7 +80,9 @@ copy-requires : tie.Need-copy-requires
 copy-requires c κs = search needs
 
 returns : tie.Need-returns
-returns c = search needs
+returns c =
+    let s = c .before .before .before .before .before .before .before .before .before .before .before .before .before .before .before .before .before in
+    ended-hmac (s .args .state .now) _ _ _ _ _ _ (s .args .suite) _ _ _ (s .pre .2) (c .before .before .before .before .before .before .before .before .before .before .before .before .before .before .before .aad-of .ensures .0) (c .before .before .before .before .before .before .before .before .before .before .before .before .before .before .taken-of .ensures .0) refl (c .before .before .before .before .before .before .before .before .before .before .before .before .finish .ensures .0) (c .before .before .before .before .before .before .before .before .before .before .block-key .ensures .0) (c .before .before .before .before .before .before .before .before .masked-block .ensures .0) (c .before .before .before .before .before .sha256-of .ensures .0) (c .before .before .before .before .before .sha256-of .ensures .1) refl (c .before .copy .ensures)
 
 pub hmac-tag-spec : {M : Type 1} → statement M
 hmac-tag-spec =

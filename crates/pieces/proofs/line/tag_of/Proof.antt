@@ -1,3 +1,8 @@
+use Rattle.suites.specs.Suites.{Nt}
+use lib.Seq.{take-all}
+use Rattle.suites.proofs.Laws.{Nk-most, Nt-most, ctr-sizes, gcm-sizes}
+use mathlib.Core.Path.{_≡_, refl, sym, _∙_, ap}
+use native.Mathlib.Omega.{arith}
 use borrow.Author.Needs.{needs}
 use Rattle.pieces.proofs.line.tag_of.Statement.{statement}
 use Rattle.pieces.proofs.line.tag_of.Tie as tie
@@ -27,10 +32,14 @@ gcm-tag-requires : tie.Need-gcm-tag-requires
 gcm-tag-requires c κs = search needs
 
 returns : tie.Need-returns
-returns c = search needs
+returns c =
+    c .hmac-tag .ensures
 
 returns-2 : tie.Need-returns-2
-returns-2 c = search needs
+returns-2 c =
+    let s = c .before .before .before .before .before .before .before .args .suite in
+    let n = gcm-sizes s (sym (c .before .before .before .before .before .mode .ensures) ∙ c .before .before .before .enum-told2 .given .1) in
+    (take-all (Nt s) _ (omega (arith, c .gcm-tag .ensures .1, n)) ∙ c .gcm-tag .ensures .0, c .gcm-tag .ensures .1)
 
 pub tag-of-spec : {M : Type 1} → statement M
 tag-of-spec =

@@ -1,3 +1,5 @@
+use Rattle.pieces.proofs.Steps.{taken-in}
+use mathlib.Core.Path.{_≡_, refl, sym, _∙_, ap}
 use borrow.Author.Needs.{needs}
 use Rattle.pieces.proofs.line.take_in.Statement.{statement}
 use Rattle.pieces.proofs.line.take_in.Tie as tie
@@ -23,7 +25,9 @@ same-length : tie.Need-same-length
 same-length c = search needs
 
 returns : tie.Need-returns
-returns c = search needs
+returns c =
+    let s = c .before .before .before .before .before .before .before .before .before .before .before .before in
+    taken-in (s .args .state .now) _ _ _ (s .args .suite) (s .args .c .now) _ (s .pre .0 .0) (c .before .before .before .before .before .before .before .before .taken-of .ensures .0) refl (c .before .before .before .before .before .before .hash-more .ensures) (c .before .before .write-be-at .ensures)
 
 pub take-in-spec : {M : Type 1} → statement M
 take-in-spec =

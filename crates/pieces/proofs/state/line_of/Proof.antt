@@ -1,3 +1,5 @@
+use Rattle.pieces.proofs.Steps.{line-short, line-kind, line-counts, line-found}
+use native.Mathlib.Omega.{arith}
 use borrow.Author.Needs.{needs}
 use Rattle.pieces.proofs.state.line_of.Statement.{statement}
 use Rattle.pieces.proofs.state.line_of.Tie as tie
@@ -8,19 +10,22 @@ use Rattle.pieces.proofs.state.wide.Reads as wide-reads
 use Rattle.suites.proofs.sizes.find.Reads as find-reads
 
 returns : tie.Need-returns
-returns c = search needs
+returns c =
+    line-short (c .before .before .args .state .now) _ (omega arith)
 
 shared-slice-read-if2 : tie.Need-shared-slice-read-if2
 shared-slice-read-if2 c = search needs
 
 returns-2 : tie.Need-returns-2
-returns-2 c = search needs
+returns-2 c =
+    line-kind (c .before .before .before .before .args .state .now) _ (omega arith) (λ z. omega arith)
 
 counts-fit-requires : tie.Need-counts-fit-requires
 counts-fit-requires c κs = search needs
 
 returns-3 : tie.Need-returns-3
-returns-3 c = search needs
+returns-3 c =
+    line-counts (c .before .before .before .before .before .before .args .state .now) _ _ (omega arith) (omega arith) (c .before .counts-fit .ensures) (c .if3 .taken)
 
 shared-slice-read-wide : tie.Need-shared-slice-read-wide
 shared-slice-read-wide c = search needs
@@ -32,7 +37,8 @@ find-requires : tie.Need-find-requires
 find-requires c κs = search needs
 
 returns-4 : tie.Need-returns-4
-returns-4 c = search needs
+returns-4 c =
+    line-found (c .before .before .before .before .before .before .before .before .before .args .state .now) _ _ _ _ (omega arith) (omega arith) (c .before .before .before .before .counts-fit .ensures) (c .before .before .before .if3 .left) (c .before .wide .ensures) (c .find .ensures)
 
 pub line-of-spec : {M : Type 1} → statement M
 line-of-spec =
