@@ -1,3 +1,4 @@
 mod Steps
-pub mod Begins
+mod Begins
 mod CallSteps
+pub mod Lines
