@@ -2,3 +2,4 @@ mod Steps
 mod Begins
 mod CallSteps
 pub mod Lines
+pub mod CallLaws

@@ -197,10 +197,10 @@ module _ (kind : ℕ) (suite : Suite) (n : ℕ) (nonce key aad : List ℕ) (g : 
     d72 : drop 72 S ≡ H ++ rest
     d72 = sym (drop-drop 4 68 S) ∙ ap (drop 4) d68 ∙ drop-at (bytes 4 (length c)) (H ++ rest) 4 T-length
 
-    nonce-is : nonceIn S ≡ nonce
+    pub nonce-is : nonceIn S ≡ nonce
     nonce-is = ap (take 12) d8 ∙ take-at nonce (keyField key ++ (bytes 4 (length c) ++ (H ++ rest))) 12 (g .nonceSized)
 
-    key-is : keyIn suite S ≡ key
+    pub key-is : keyIn suite S ≡ key
     unfolding keyField
     key-is =
         ap (take (Nk suite)) (d20 ∙ append-assoc key (replicate (48 - length key) 0) (bytes 4 (length c) ++ (H ++ rest)))
@@ -209,7 +209,7 @@ module _ (kind : ℕ) (suite : Suite) (n : ℕ) (nonce key aad : List ℕ) (g : 
     hash-is : hashIn S ≡ H
     hash-is = ap (take 96) d72 ∙ take-at H rest 96 H-length
 
-    taken-is : length c ≤ n → takenIn S ≡ length c
+    pub taken-is : length c ≤ n → takenIn S ≡ length c
     taken-is h =
         ap (number 4) d68 ∙ number-append 4 (bytes 4 (length c)) (H ++ rest) (omega (arith, T-length)) ∙ number-bytes 4 (length c)
         ∙ mod-eq-of-lt (omega (arith, g .announced))
@@ -224,7 +224,7 @@ module _ (kind : ℕ) (suite : Suite) (n : ℕ) (nonce key aad : List ℕ) (g : 
         ∙ number-append 2 (bytes 2 (length aad)) _ (omega (arith, bytes-length 2 (length aad))) ∙ number-bytes 2 (length aad)
         ∙ mod-eq-of-lt (omega (arith, g .most))
 
-    announced-is : announcedIn S ≡ n
+    pub announced-is : announcedIn S ≡ n
     announced-is =
         ap (number 4)
         (sym (drop-drop 2 2 S) ∙ ap (drop 2) (d2 ∙ append-assoc (bytes 2 (length aad)) (bytes 4 n) _)
@@ -239,7 +239,7 @@ module _ (kind : ℕ) (suite : Suite) (n : ℕ) (nonce key aad : List ℕ) (g : 
     unfolding front
     suite-is = ap (λ (l : List ℕ). suiteOf (getD l 1 0)) flat ∙ number-known suite
 
-    S-length : length S ≡ 168 + length rest
+    pub S-length : length S ≡ 168 + length rest
     S-length =
         ap length flat-P ∙ length-append P ((bytes 4 (length c) ++ H) ++ rest)
         ∙ rw (P-length, length-append (bytes 4 (length c) ++ H) rest, length-append (bytes 4 (length c)) H, T-length, H-length) (omega arith)
