@@ -3,3 +3,4 @@ mod Begins
 mod CallSteps
 pub mod Lines
 pub mod CallLaws
+pub mod Joined

@@ -68,7 +68,7 @@ input-cut nt nonce aad c = simp append-assoc
 zero-below : 0 < 2 ^ 128
 zero-below = ltb-true 0 (2 ^ 128) refl
 
-hash-key-lt : (key : List ℕ) → hashKey key < 2 ^ 128
+pub hash-key-lt : (key : List ℕ) → hashKey key < 2 ^ 128
 unfolding hashKey
 hash-key-lt key = number-lt 16 (encrypt key (replicate 16 0)) (encrypt-octets key (replicate 16 0))
 
