@@ -51,6 +51,10 @@ alreadyOpened = 14
 abbrev pub counterTooOld : ℕ
 counterTooOld = 15
 
+-- of a frame in pieces: its running state is not possible, or does not allow this call
+abbrev pub stateMismatch : ℕ
+stateMismatch = 16
+
 abbrev pub sendingBarred : ℕ
 sendingBarred = 17
 
