@@ -68,7 +68,7 @@ module _ (cipher : Cipher) (laws : Laws cipher) (s : List ℕ) (rs : List KeyRec
     outcome-of : KeyRecord → Outcome
     outcome-of held =
         let f = nextFrame cipher held kid metadata plaintext in
-        record { number = 0; written = length f; store = encodeAll (put kid (advanced held) rs); room = pasted room offset f }
+        record { number = 0; written = length f; store = encodeAll (put kid (advanced held) rs); room = pasted room offset f; state = [] }
 
     sealed-by : (o : Outcome) (held : KeyRecord) → get kid rs ≡ held → Settled (causesOfSeal true held kid (length metadata) (length plaintext) offset (length room)) s room (outcome-of held) o
         → SealStep cipher s rs kid metadata plaintext offset o
