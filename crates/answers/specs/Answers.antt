@@ -51,9 +51,9 @@ alreadyOpened = 14
 abbrev pub counterTooOld : ℕ
 counterTooOld = 15
 
--- of a running state, or of what a sealing or a check in pieces is given with it
-abbrev pub stateRefused : ℕ
-stateRefused = 16
+-- of a frame in pieces: its running state is not possible, or does not allow this call
+abbrev pub stateMismatch : ℕ
+stateMismatch = 16
 
 abbrev pub sendingBarred : ℕ
 sendingBarred = 17

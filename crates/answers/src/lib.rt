@@ -35,7 +35,7 @@ pub const ALREADY_OPENED: u32 = 14;
 
 pub const COUNTER_TOO_OLD: u32 = 15;
 
-pub const STATE_REFUSED: u32 = 16;
+pub const STATE_MISMATCH: u32 = 16;
 
 pub const SENDING_BARRED: u32 = 17;
 

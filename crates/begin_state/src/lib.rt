@@ -1,0 +1,1 @@
+// The running state that a line of calls begins with.
