@@ -5,7 +5,8 @@ use mathlib.Core.Bool.{Bool, not}
 use mathlib.Core.List.{List, [], _∷_, _++_}
 use Prim.Native.Nat.{ℕ}
 use lib.Dec.{ltb, eqb}
-use lib.ListN.{length, take, drop}
+use lib.ListN.{length, take}
+use Rattle.octets.specs.Octets.{pasted}
 use Rattle.header.specs.Header.{readHeader}
 use Rattle.header.specs.Answers.{headerInvalid, roomShort, readNumber, readKid, readCtr, readLength}
 use Rattle.header.specs.declared.Reading.{Reading}
@@ -36,7 +37,7 @@ module _ (cipher : Cipher) where
   unfoldable pub checkAt : (valid : Bool) (reading : Reading) (held : KeyRecord) (s metadata bytes : List ℕ) (announced : ℕ) (state : List ℕ) → Outcome
   checkAt valid reading held s metadata bytes announced state =
       settledOn (first (checkCauses valid reading held (length metadata) announced (length state))) s [] state
-      (record { number = 0; written = 0; store = s; room = []; state = firstState cipher checking held (readCtr reading) announced (take (readLength reading) bytes ++ metadata) ++ drop stateSize state })
+      (record { number = 0; written = 0; store = s; room = []; state = pasted state 0 (firstState cipher checking held (readCtr reading) announced (take (readLength reading) bytes ++ metadata)) })
 
   unfoldable pub checkBegin : (s metadata bytes : List ℕ) (announced : ℕ) (state : List ℕ) → Outcome
   checkBegin s metadata bytes announced state =

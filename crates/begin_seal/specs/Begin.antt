@@ -5,7 +5,8 @@ use mathlib.Core.Bool.{Bool}
 use mathlib.Core.List.{List, [], _∷_, _++_}
 use Prim.Native.Nat.{ℕ}
 use lib.Dec.{ltb}
-use lib.ListN.{length, drop}
+use lib.ListN.{length}
+use Rattle.octets.specs.Octets.{pasted}
 use Rattle.header.specs.Header.{header}
 use Rattle.header.specs.Answers.{roomShort}
 use Rattle.answers.specs.Answers.{Cause, _if_, first, Outcome, settledOn}
@@ -34,8 +35,8 @@ module _ (cipher : Cipher) where
         number = 0;
         written = length h;
         store = encodeAll (put kid (advanced held) rs);
-        room = h ++ drop (length h) room;
-        state = firstState cipher sealing held (counterOf held) announced (h ++ metadata) ++ drop stateSize state;
+        room = pasted room 0 h;
+        state = pasted state 0 (firstState cipher sealing held (counterOf held) announced (h ++ metadata));
       })
 
   unfoldable pub sealBegin : (s : List ℕ) (kid : ℕ) (metadata : List ℕ) (announced : ℕ) (state room : List ℕ) → Outcome
