@@ -1,10 +1,11 @@
+mod Facts
 mod Frames
 mod Ledger
+mod Lines
 mod Logged
 pub mod Neighbours
 mod Never
 mod Once
 pub mod Opens
+mod Refusals
 pub mod Soundness
-pub mod Suites
-pub mod Theorem
