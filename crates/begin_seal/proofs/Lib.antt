@@ -1,1 +1,2 @@
+mod BeginSteps
 pub mod Begins
