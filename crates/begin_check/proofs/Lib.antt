@@ -1,1 +1,2 @@
+mod CheckSteps
 pub mod Checks
