@@ -37,12 +37,19 @@ hashAfter Gcm nt n key nonce aad c =
     let h = hashKey key in
     keptBlock (absorbWhole h (absorb h 0 aad) c) (leftOver c)
 
+-- Kind, suite and counts, at the front of a state.
+unfoldable pub front : (kind : ℕ) (suite : Suite) (aad n : ℕ) → List ℕ
+front kind suite aad n = kind ∷ numberOf suite ∷ (bytes 2 aad ++ bytes 4 n)
+
+-- A key, with zeros to the end of its room.
+unfoldable pub keyField : List ℕ → List ℕ
+keyField key = key ++ replicate (keySpace - length key) 0
+
 -- The state of a line with n bytes announced, once the ciphertext c has been taken.
 unfoldable pub stateAfter : (kind : ℕ) (suite : Suite) (n : ℕ) (nonce key aad c : List ℕ) → List ℕ
 stateAfter kind suite n nonce key aad c =
-    kind ∷ numberOf suite
-    ∷ (bytes 2 (length aad) ++ (bytes 4 n ++ (nonce ++ ((key ++ replicate (keySpace - length key) 0)
-    ++ (bytes 4 (length c) ++ hashAfter (modeOf suite) (Nt suite) n key nonce aad c)))))
+    front kind suite (length aad) n
+    ++ (nonce ++ (keyField key ++ (bytes 4 (length c) ++ hashAfter (modeOf suite) (Nt suite) n key nonce aad c)))
 
 -- The state that a beginning writes.
 unfoldable pub begun : (kind : ℕ) (suite : Suite) (n : ℕ) (nonce key aad : List ℕ) → List ℕ
