@@ -50,15 +50,7 @@ fn begin_with(
     if state.len() < STATE_SIZE {
         return ROOM_SHORT;
     }
-    begin_state::write_first(
-        row,
-        CHECKING,
-        ctr,
-        &bytes[0..n],
-        metadata,
-        announced,
-        state,
-    );
+    begin_state::write_first(row, CHECKING, ctr, &bytes[0..n], metadata, announced, state);
     DONE
 }
 

@@ -79,15 +79,7 @@ fn write_line(
     let mut head = [0u8; MAX_HEADER];
     let n = seal_frame::write_next(row, kid, &mut head);
     let ctr = key_record::row::next_of(row);
-    begin_state::write_first(
-        row,
-        SEALING,
-        ctr,
-        &head[0..n],
-        metadata,
-        announced,
-        state,
-    );
+    begin_state::write_first(row, SEALING, ctr, &head[0..n], metadata, announced, state);
     octets::copy(room, &head[0..n]);
     n
 }

@@ -14,7 +14,7 @@ use Rattle.piece_hash.specs.Held.{absorbWhole, leftOver}
 
 module _ (h : ℕ) where
   -- Blocks are a matter of their own bytes.
-  blocks-front : (y : ℕ) (a b : List ℕ) (n : ℕ) → 16 * n ≤ length a → absorbBlocks h y (a ++ b) n ≡ absorbBlocks h y a n
+  pub blocks-front : (y : ℕ) (a b : List ℕ) (n : ℕ) → 16 * n ≤ length a → absorbBlocks h y (a ++ b) n ≡ absorbBlocks h y a n
   unfolding absorbBlocks
   blocks-front y a b zero k = refl
   blocks-front y a b (suc n) k =
@@ -22,7 +22,7 @@ module _ (h : ℕ) where
       (ap (number 16) (drop-append-le (16 * n) a b (omega arith)) ∙ number-append 16 (drop (16 * n) a) b (rw (length-drop (16 * n) a) (omega arith)))
 
   -- Whole blocks in front are absorbed first.
-  blocks-append : (y : ℕ) (a b : List ℕ) (m n : ℕ) → length a ≡ 16 * m
+  pub blocks-append : (y : ℕ) (a b : List ℕ) (m n : ℕ) → length a ≡ 16 * m
       → absorbBlocks h y (a ++ b) (m + n) ≡ absorbBlocks h (absorbBlocks h y a m) b n
   unfolding absorbBlocks
   blocks-append y a b m zero e = ap (absorbBlocks h y (a ++ b)) (add-zero m) ∙ blocks-front y a b m (omega arith)

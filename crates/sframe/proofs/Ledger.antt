@@ -452,7 +452,6 @@ module _ (cipher : Cipher) (laws : Laws cipher) (lines : Lines cipher) where
       by : EpochStep width bits (h .store) (i .table) (changeEpoch (h .store) width bits) → Inv cipher lines (step cipher (ChangeEpoch width bits) h)
       by (EpochStep.refused d e) = stays cipher lines h i _ _ e refl
       by (EpochStep.done z c st) = goes-on cipher lines h i _ (withoutEpoch width bits (i .table)) other other st refl (swept-account cipher lines width bits (i .table) (withoutEpoch width bits (i .table)) (h .log) (i .account) c)
-
   step-keeps (Begin kid metadata announced state room) h q i = by (begin-step cipher (h .store) (i .table) (i .is-stored) kid metadata announced state room)
     where
       by : BeginStep cipher (h .store) (i .table) kid metadata announced state (sealBegin cipher (h .store) kid metadata announced state room) → Inv cipher lines (step cipher (Begin kid metadata announced state room) h)

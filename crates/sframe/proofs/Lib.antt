@@ -1,6 +1,8 @@
+mod Cuts
 mod Facts
 mod Frames
 mod Ledger
+mod LineSuites
 mod Lines
 mod Logged
 pub mod Neighbours
@@ -9,3 +11,5 @@ mod Once
 pub mod Opens
 mod Refusals
 pub mod Soundness
+pub mod Suites
+pub mod Theorem

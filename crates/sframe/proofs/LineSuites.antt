@@ -21,17 +21,17 @@ use Rattle.suites.proofs.Laws.{ciphertext-length, tag-length}
 use Rattle.pieces.specs.State.{sealing, announcedIn, takenIn, fits, lineOf}
 use Rattle.pieces.specs.Line.{stateAfter, after, cipherPiece, tagIn}
 use Rattle.pieces.specs.Calls.{Result, concluded, past, early, wanting, sealPieceIn, sealPiece, sealEndIn, sealEnd}
-use Rattle.pieces.proofs.Lines as Line
+use Rattle.piece_lines.proofs.Lines as Line
 use Rattle.key_record.specs.Suites.{withSuite, isSuite}
 use Rattle.key_record.proofs.Suites.{named, key-named}
 use Rattle.store.specs.Sframe.{encryptBy, sframe}
 use Rattle.store.proofs.CipherLaws.{Usable}
 use Rattle.sframe.proofs.Facts.{lineState, Given, Moved, Closed, Step, refused, done, Lines}
 
-cutFor : (n : ℕ) (key nonce p : List ℕ) → List ℕ
+pub cutFor : (n : ℕ) (key nonce p : List ℕ) → List ℕ
 cutFor n key nonce p = withSuite [] (λ s. ciphertext s key nonce p) (suiteOf n)
 
-tagFor : (n : ℕ) (key nonce aad c : List ℕ) → List ℕ
+pub tagFor : (n : ℕ) (key nonce aad c : List ℕ) → List ℕ
 tagFor n key nonce aad c = withSuite [] (λ s. Aead.tag s key nonce aad c) (suiteOf n)
 
 -- a call that is refused with 16 or 12, or answers 0
@@ -48,37 +48,37 @@ step-by D off m r s room a z f = by (two off) (two (ltb r m))
 -- ---- one suite
 
 module _ (num : ℕ) (s : Suite) (found : suiteOf num ≡ Known s) (key nonce aad : List ℕ) where
-  cut-is : (p : List ℕ) → cutFor num key nonce p ≡ ciphertext s key nonce p
+  pub cut-is : (p : List ℕ) → cutFor num key nonce p ≡ ciphertext s key nonce p
   unfolding cutFor
   cut-is p = rw found
 
-  tag-is : (c : List ℕ) → tagFor num key nonce aad c ≡ Aead.tag s key nonce aad c
+  pub tag-is : (c : List ℕ) → tagFor num key nonce aad c ≡ Aead.tag s key nonce aad c
   unfolding tagFor
   tag-is c = rw found
 
-  line-is : (n : ℕ) (c tail : List ℕ) → lineState num key nonce aad n c tail ≡ stateAfter sealing s n nonce key aad c ++ tail
+  pub line-is : (n : ℕ) (c tail : List ℕ) → lineState num key nonce aad n c tail ≡ stateAfter sealing s n nonce key aad c ++ tail
   unfolding lineState
   line-is n c tail = rw found
 
   module _ (n : ℕ) (g : Line.Given s n nonce key aad) where
-    abbrev E : List ℕ → List ℕ
+    abbrev pub E : List ℕ → List ℕ
     E p = ciphertext s key nonce p
 
-    abbrev S : List ℕ → List ℕ → List ℕ
+    abbrev pub S : List ℕ → List ℕ → List ℕ
     S p tail = stateAfter sealing s n nonce key aad (E p) ++ tail
 
-    line-of : (p tail : List ℕ) → lineState num key nonce aad n (cutFor num key nonce p) tail ≡ S p tail
+    pub line-of : (p tail : List ℕ) → lineState num key nonce aad n (cutFor num key nonce p) tail ≡ S p tail
     line-of p tail = ap (λ (c : List ℕ). lineState num key nonce aad n c tail) (cut-is p) ∙ line-is n (E p) tail
 
     module _ (p tail : List ℕ) (h : length p ≤ n) where
-      short : length (E p) ≤ n
+      pub short : length (E p) ≤ n
       short = let e = ciphertext-length s key nonce p in omega arith
 
       known : lineOf sealing (S p tail) ≡ Known s
       known = Line.line-is sealing s n nonce key aad g (E p) tail short
 
       module _ (q room : List ℕ) where
-        c : List ℕ
+        pub c : List ℕ
         c = cipherPiece s (S p tail) q
 
         joined : E (p ++ q) ≡ E p ++ c
@@ -93,7 +93,7 @@ module _ (num : ℕ) (s : Suite) (found : suiteOf num ≡ Known s) (key nonce aa
             let e : length (E (p ++ q)) ≡ length (E p) + length c = ap length joined ∙ length-append (E p) c in
             omega arith
 
-        answered : Result
+        unfoldable pub answered : Result
         answered = record { number = 0; written = length q; state = after s (S p tail) c; room = pasted room 0 c }
 
         piece-moved : length p + length q ≤ n → Moved num key nonce aad n (length p) q (cutFor num key nonce p) (cutFor num key nonce (p ++ q)) tail answered
@@ -108,7 +108,7 @@ module _ (num : ℕ) (s : Suite) (found : suiteOf num ≡ Known s) (key nonce aa
               ∙ ap₂ _++_ (sym (cut-is p)) (sym (pasted-at room 0 c (omega arith)) ∙ ap (λ (k : ℕ). take k (pasted room 0 c)) c-length);
         }
 
-        piece-is : sealPiece (S p tail) q room ≡ concluded (first (wanting (past (S p tail) (length q)) (length q) (length room))) (S p tail) room answered
+        pub piece-is : sealPiece (S p tail) q room ≡ concluded (first (wanting (past (S p tail) (length q)) (length q) (length room))) (S p tail) room answered
         unfolding sealPiece answered c
         piece-is = ap (λ (f : Found). sealPieceIn f (S p tail) q room) known
 
@@ -119,7 +119,7 @@ module _ (num : ℕ) (s : Suite) (found : suiteOf num ≡ Known s) (key nonce aa
             let e = ciphertext-length s key nonce p in
             omega (arith, ltb-false (announcedIn (S p tail)) (takenIn (S p tail) + length q) t)
 
-        piece-by : Step (Moved num key nonce aad n (length p) q (cutFor num key nonce p) (cutFor num key nonce (p ++ q)) tail (sealPiece (S p tail) q room)) (sealPiece (S p tail) q room)
+        pub piece-by : Step (Moved num key nonce aad n (length p) q (cutFor num key nonce p) (cutFor num key nonce (p ++ q)) tail (sealPiece (S p tail) q room)) (sealPiece (S p tail) q room)
         unfolding answered
         piece-by =
             rw piece-is
@@ -127,7 +127,7 @@ module _ (num : ℕ) (s : Suite) (found : suiteOf num ≡ Known s) (key nonce aa
             (λ t. piece-moved (fits-in t)))
 
       module _ (room : List ℕ) where
-        tagged : Result
+        unfoldable pub tagged : Result
         tagged = record { number = 0; written = Nt s; state = S p tail; room = pasted room 0 (tagIn s (S p tail)) }
 
         all-taken : early (S p tail) ≡ false → length p ≡ n
@@ -154,11 +154,11 @@ module _ (num : ℕ) (s : Suite) (found : suiteOf num ≡ Known s) (key nonce aa
                   ∙ sym (tag-is (cutFor num key nonce p) ∙ ap (Aead.tag s key nonce aad) (cut-is p));
             }
 
-        end-is : sealEnd (S p tail) room ≡ concluded (first (wanting (early (S p tail)) (Nt s) (length room))) (S p tail) room tagged
+        pub end-is : sealEnd (S p tail) room ≡ concluded (first (wanting (early (S p tail)) (Nt s) (length room))) (S p tail) room tagged
         unfolding sealEnd tagged
         end-is = ap (λ (f : Found). sealEndIn f (S p tail) room) known
 
-        end-by : Step (Closed n (length p) (tagFor num key nonce aad (cutFor num key nonce p)) (S p tail) (sealEnd (S p tail) room)) (sealEnd (S p tail) room)
+        pub end-by : Step (Closed n (length p) (tagFor num key nonce aad (cutFor num key nonce p)) (S p tail) (sealEnd (S p tail) room)) (sealEnd (S p tail) room)
         unfolding tagged
         end-by =
             rw end-is
@@ -180,7 +180,7 @@ end-none room e = let z : _≡_ {A = ℕ} 16 0 = ap (λ (f : Found). sealEndIn f
 
 -- ---- the five suites
 
-given-as : (num : ℕ) (s : Suite) → suiteOf num ≡ Known s → (key nonce aad : List ℕ) (n : ℕ) → Given num key nonce aad n → Line.Given s n nonce key aad
+pub given-as : (num : ℕ) (s : Suite) → suiteOf num ≡ Known s → (key nonce aad : List ℕ) (n : ℕ) → Given num key nonce aad n → Line.Given s n nonce key aad
 given-as num s e key nonce aad n g = record {
   nonce-size = g .usable .nonce-length;
   key-size = g .usable .key-length ∙ key-named num s e;
