@@ -246,19 +246,19 @@ pub extern "C" fn sframe_seal_begin(
     store: &mut [u8],
     kid: u64,
     metadata: &[u8],
-    plaintext_len: u64,
+    announced: u64,
     state: &mut [u8],
     out: &mut [u8],
     length: &mut usize,
 ) -> u32
-    ensures { λ r. ⌜ r ≡ sealBegin sframe (now (store .entry)) kid (now (metadata .entry)) plaintext_len (now (state .entry)) (now (out .entry)) .number ⌝ }
-    ensures { λ r. ⌜ now (length .exit) ≡ sealBegin sframe (now (store .entry)) kid (now (metadata .entry)) plaintext_len (now (state .entry)) (now (out .entry)) .written ⌝ }
-    ensures { λ r. ⌜ now (store .exit) ≡ sealBegin sframe (now (store .entry)) kid (now (metadata .entry)) plaintext_len (now (state .entry)) (now (out .entry)) .store ⌝ }
-    ensures { λ r. ⌜ now (out .exit) ≡ sealBegin sframe (now (store .entry)) kid (now (metadata .entry)) plaintext_len (now (state .entry)) (now (out .entry)) .room ⌝ }
-    ensures { λ r. ⌜ now (state .exit) ≡ sealBegin sframe (now (store .entry)) kid (now (metadata .entry)) plaintext_len (now (state .entry)) (now (out .entry)) .state ⌝ }
+    ensures { λ r. ⌜ r ≡ sealBegin sframe (now (store .entry)) kid (now (metadata .entry)) announced (now (state .entry)) (now (out .entry)) .number ⌝ }
+    ensures { λ r. ⌜ now (length .exit) ≡ sealBegin sframe (now (store .entry)) kid (now (metadata .entry)) announced (now (state .entry)) (now (out .entry)) .written ⌝ }
+    ensures { λ r. ⌜ now (store .exit) ≡ sealBegin sframe (now (store .entry)) kid (now (metadata .entry)) announced (now (state .entry)) (now (out .entry)) .store ⌝ }
+    ensures { λ r. ⌜ now (out .exit) ≡ sealBegin sframe (now (store .entry)) kid (now (metadata .entry)) announced (now (state .entry)) (now (out .entry)) .room ⌝ }
+    ensures { λ r. ⌜ now (state .exit) ≡ sealBegin sframe (now (store .entry)) kid (now (metadata .entry)) announced (now (state .entry)) (now (out .entry)) .state ⌝ }
 {
-    let announced = plaintext_len as usize;
-    let answer = begin_seal::seal_begin(store, Kid(kid), FRONT, metadata, announced, state, out);
+    let n = announced as usize;
+    let answer = begin_seal::seal_begin(store, Kid(kid), FRONT, metadata, n, state, out);
     *length = answer.length;
     answer.number
 }
@@ -297,14 +297,14 @@ pub extern "C" fn sframe_check_begin(
     store: &[u8],
     header: &[u8],
     metadata: &[u8],
-    ciphertext_len: u64,
+    announced: u64,
     state: &mut [u8],
 ) -> u32
-    ensures { λ r. ⌜ r ≡ checkBegin sframe (now (store .entry)) (now (metadata .entry)) (now (header .entry)) ciphertext_len (now (state .entry)) .number ⌝ }
-    ensures { λ r. ⌜ now (state .exit) ≡ checkBegin sframe (now (store .entry)) (now (metadata .entry)) (now (header .entry)) ciphertext_len (now (state .entry)) .state ⌝ }
+    ensures { λ r. ⌜ r ≡ checkBegin sframe (now (store .entry)) (now (metadata .entry)) (now (header .entry)) announced (now (state .entry)) .number ⌝ }
+    ensures { λ r. ⌜ now (state .exit) ≡ checkBegin sframe (now (store .entry)) (now (metadata .entry)) (now (header .entry)) announced (now (state .entry)) .state ⌝ }
 {
-    let announced = ciphertext_len as usize;
-    begin_check::check_begin(store, FRONT, header, metadata, announced, state)
+    let n = announced as usize;
+    begin_check::check_begin(store, FRONT, header, metadata, n, state)
 }
 
 #[no_mangle]
