@@ -1,3 +1,4 @@
+mod Checks
 mod Cuts
 mod Facts
 mod Frames

@@ -4,9 +4,10 @@
 use mathlib.Core.Path.{_≡_}
 use mathlib.Core.Bool.{true}
 use mathlib.Core.List.{List, _++_}
+use mathlib.Core.Logic.{_↔_}
 use Prim.Native.Nat.{ℕ, _-_, _≤_}
 use native.Mathlib.Omega.{arith}
-use lib.ListN.{length}
+use lib.ListN.{length, take}
 use Rattle.octets.specs.Octets.{Octets, ascii}
 use Rattle.header.specs.Answers.{readKid}
 use Rattle.header.specs.Header.{readHeader}
@@ -21,14 +22,16 @@ use Rattle.store.specs.Table.{get}
 use Rattle.pair_log.specs.Report.{decimal, line, report}
 use Rattle.seal_frame.specs.Seal.{nextFrame, seal}
 use Rattle.open_frame.specs.Open.{opening}
+use Rattle.pieces.specs.Calls.{checkEnd}
 use Rattle.begin_seal.specs.Begin.{sealBegin}
 use Rattle.begin_check.specs.Check.{checkBegin}
 use Rattle.change_epoch.specs.Epoch.{changeEpoch}
-use Rattle.sframe.specs.Promises.{Kept, NeverAgain, NoneBarred, OpenedOnce, Offered, WindowCauses, Openable, OpensExactly, Alike, SameAnswer, Unchanged, EpochChanged}
+use Rattle.sframe.specs.Promises.{Encryption, Kept, NeverAgain, NoneBarred, OpenedOnce, Offered, WindowCauses, Openable, OpensExactly, Alike, SameAnswer, Unchanged, EpochChanged}
 use Rattle.store.specs.Sframe.{sframe}
 use Rattle.sframe.specs.History.{Call, Sealing, Event, Typed, AllTyped, outcome, run, start}
-use Rattle.sframe.specs.Cuts.{Cut, plaintextOf, Roomy, cutFrame}
+use Rattle.sframe.specs.Cuts.{Cut, plaintextOf, Roomy, cutFrame, joinedAll, checkedBy, CheckBegun}
 use Rattle.sframe.specs.Logs.{sealings, Taken, logOf}
+use Rattle.sframe.proofs.Checks.{checks-exactly}
 use Rattle.sframe.proofs.Cuts.{cuts-whole}
 use Rattle.sframe.proofs.Frames.{kept}
 use Rattle.sframe.proofs.Ledger.{run-keeps, start-keeps}
@@ -81,6 +84,13 @@ pub cut-as-whole : (s : List ℕ) → Octets s → sound s ≡ true → (kid : �
     → sealBegin sframe s kid metadata announced state room .number ≡ 0 → length (plaintextOf cs) ≡ announced → Roomy cs → tagSize (suiteOf (get kid (records s))) ≤ length last
     → cutFrame (sealBegin sframe s kid metadata announced state room) cs last ≡ nextFrame sframe (get kid (records s)) kid metadata (plaintextOf cs)
 cut-as-whole = cuts-whole
+
+-- A check in pieces that was begun with a key held for receiving, and given all that was announced, says yes exactly when header,
+-- ciphertext and tag are the RFC's encryption of some plaintext.
+pub check-exact : (s metadata bytes : List ℕ) (announced : ℕ) (state : List ℕ) (r : ReceivingKey) (ctr n : ℕ) → CheckBegun s metadata bytes announced state r ctr n
+    → (ds : List (List ℕ)) (tag : List ℕ) → Octets (joinedAll ds) → length (joinedAll ds) ≡ announced → length tag ≡ tagSize (r .suite)
+    → (checkEnd (checkedBy (checkBegin sframe s metadata bytes announced state .state) ds) tag ≡ 0) ↔ Encryption sframe r ctr n metadata (take n bytes ++ (joinedAll ds ++ tag))
+check-exact = checks-exactly
 
 -- Opening succeeds exactly when the frame is the RFC's encryption of some plaintext, and yields that plaintext.
 pub opening-exact : (s metadata bytes room : List ℕ) (r : ReceivingKey) (ctr n : ℕ) (q : Openable sframe s metadata bytes room r ctr n)
