@@ -14,7 +14,7 @@ use Rattle.piece_hash.specs.Held.{absorbWhole, leftOver}
 
 module _ (h : ℕ) where
   -- Blocks are a matter of their own bytes.
-  pub blocks-front : (y : ℕ) (a b : List ℕ) (n : ℕ) → 16 * n ≤ length a → absorbBlocks h y (a ++ b) n ≡ absorbBlocks h y a n
+  blocks-front : (y : ℕ) (a b : List ℕ) (n : ℕ) → 16 * n ≤ length a → absorbBlocks h y (a ++ b) n ≡ absorbBlocks h y a n
   unfolding absorbBlocks
   blocks-front y a b zero k = refl
   blocks-front y a b (suc n) k =

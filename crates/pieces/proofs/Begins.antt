@@ -6,13 +6,12 @@ use native.Mathlib.Nat.{zero-add, mod-eq-of-lt, div-one}
 use native.Mathlib.Omega.{arith}
 use borrow.Rule.Slice.PartMut.{putMid}
 use lib.ListN.{length, take, drop, replicate, length-append, length-take, length-drop, length-replicate, drop-of-length-le}
-use lib.Seq.{length-take-le, drop-drop, drop-append-add}
+use lib.Seq.{length-take-le, drop-drop}
 use Rattle.octets.specs.Octets.{bytes, xors, pasted}
 use Rattle.octets.proofs.Laws.{bytes-length, bytes-zero, bytes-suc, pasted-append, pasted-front, pasted-length}
-use Rattle.sha2.specs.Sha2.{Params, run}
 use Rattle.sha2.specs.Sizes.{sha256}
-use Rattle.sha2.specs.inner.Running.{State, left, roomOf, waits, fresh, fed}
-use Rattle.sha2.proofs.Laws.{run-append, run-whole, run-short, whole, whole-length, left-length, waits-fed, drop-zeros}
+use Rattle.sha2.specs.inner.Running.{State, fresh, fed}
+use Rattle.sha2.proofs.Laws.{drop-zeros}
 use Rattle.hmac.specs.Hmac.{extended, masked, ipad}
 use Rattle.ghash.specs.Ghash.{absorb, absorbBlocks}
 use Rattle.ghash.specs.inner.HashKey.{HashKey, hashKeyOf}
@@ -27,51 +26,10 @@ use Rattle.suites.specs.Aead.{cipherKey, authKey}
 use Rattle.suites.proofs.Laws.{number-byte, whole-key}
 use Rattle.piece_hash.specs.Held.{kept, keptBlock, absorbWhole, leftOver}
 use Rattle.piece_hash.proofs.Blocks.{whole-short, left-short}
+use Rattle.piece_hash.proofs.Joins.{fed-join, fresh-room}
 use Rattle.pieces.specs.Line.{tagFront, front, keyField, hashAfter, stateAfter, begun}
 
--- ---- a running hash fed twice
-
-B : 0 < 64
-B = omega arith
-
-left-append : (a z : List ℕ) (k : ℕ) → length a ≡ k * 64 → left sha256 (a ++ z) ≡ left sha256 z
-unfolding left
-left-append a z k e =
-    let q : length (a ++ z) / 64 * 64 ≡ length a + length z / 64 * 64 = rw (length-append a z) (omega arith) in
-    ap (λ (i : ℕ). drop i (a ++ z)) q ∙ drop-append-add a z (length z / 64 * 64)
-
-module _ (w x y : List ℕ) where
-  abbrev front-blocks : List ℕ
-  front-blocks = take (length (w ++ x) / 64 * 64) (w ++ x)
-
-  again : front-blocks ++ (left sha256 (w ++ x) ++ y) ≡ w ++ (x ++ y)
-  again = sym (append-assoc front-blocks (left sha256 (w ++ x)) y) ∙ ap (λ (l : List ℕ). l ++ y) (whole sha256 B (w ++ x)) ∙ append-assoc w x y
-
-  run-cut : (h : List ℕ) → run sha256 (run sha256 h (w ++ x)) (left sha256 (w ++ x) ++ y) ≡ run sha256 h (w ++ (x ++ y))
-  run-cut h =
-      ap (λ (g : List ℕ). run sha256 g (left sha256 (w ++ x) ++ y)) (sym (run-whole sha256 B h (w ++ x)))
-      ∙ sym (run-append sha256 B (length (w ++ x) / 64) h front-blocks (left sha256 (w ++ x) ++ y) (whole-length sha256 B (w ++ x)))
-      ∙ ap (run sha256 h) again
-
-  left-cut : left sha256 (left sha256 (w ++ x) ++ y) ≡ left sha256 (w ++ (x ++ y))
-  left-cut =
-      sym (left-append front-blocks (left sha256 (w ++ x) ++ y) (length (w ++ x) / 64) (whole-length sha256 B (w ++ x))) ∙ ap (left sha256) again
-
--- fed x and then y is fed both
-pub fed-join : (h : State) (x y : List ℕ) → length (h .room) ≡ 64 → fed sha256 (fed sha256 h x) y ≡ fed sha256 h (x ++ y)
-fed-join h x y l =
-    let w : waits sha256 (fed sha256 h x) ≡ left sha256 (waits sha256 h ++ x) = waits-fed sha256 B h x l in
-    let n : h .len + length x + length y ≡ h .len + length (x ++ y) = rw (length-append x y) (omega arith) in
-    state (ap (λ (v : List ℕ). run sha256 (run sha256 (h .value) (waits sha256 h ++ x)) (v ++ y)) w ∙ run-cut (waits sha256 h) x y (h .value))
-    (ap (λ (v : List ℕ). roomOf sha256 (left sha256 (v ++ y))) w ∙ ap (roomOf sha256) (left-cut (waits sha256 h) x y)) n
-  where
-    state : {v w r s : List ℕ} {m n : ℕ} → v ≡ w → r ≡ s → m ≡ n
-        → _≡_ {A = State} (record { value = v; room = r; len = m }) (record { value = w; room = s; len = n })
-    state e f g = rw (e, f, g)
-
-fresh-room : length (fresh sha256 .room) ≡ 64
-unfolding roomOf
-fresh-room = length-replicate {A = ℕ} 64 0
+-- ---- the running hash
 
 -- one more string fed to a hash that began new
 more : (s r : State) (x y : List ℕ) → s ≡ fed sha256 (fresh sha256) x → r ≡ fed sha256 s y → r ≡ fed sha256 (fresh sha256) (x ++ y)

@@ -1,3 +1,6 @@
 mod Steps
-pub mod Begins
+mod Begins
 mod CallSteps
+pub mod Lines
+pub mod CallLaws
+pub mod Joined

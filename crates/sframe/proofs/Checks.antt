@@ -31,7 +31,7 @@ use Rattle.suites.proofs.Laws.{nonce-length, ciphertext-length, ciphertext-twic
 use Rattle.pieces.specs.State.{checking, announcedIn, takenIn, lineOf}
 use Rattle.pieces.specs.Line.{stateAfter, begun, tagIn}
 use Rattle.pieces.specs.Calls.{Result, concluded, past, early, checkPieceIn, checkPiece, checkEndIn, checkEnd}
-use Rattle.piece_lines.proofs.Lines as Line
+use Rattle.pieces.proofs.Lines as Line
 use Rattle.key_record.specs.Record.{ReceivingKey, KeyRecord, empty, receiving, holds}
 use Rattle.key_record.specs.Suites.{withSuite, tagSize}
 use Rattle.key_record.proofs.Codec.{Fit}
@@ -62,7 +62,7 @@ module _ (s : Suite) (n : ℕ) (iv key aad : List ℕ) (g : Line.Given s n iv ke
         let a = Line.announced-is checking s n iv key aad g c tail in
         let b = Line.taken-is checking s n iv key aad g c tail h in
         let in-time : past (T c tail) (length d) ≡ false = le-ltb (announcedIn (T c tail)) (takenIn (T c tail) + length d) (omega arith) in
-        ap (λ (f : Found). checkPieceIn f (T c tail) d .state) known ∙ rw in-time (Line.taken-on checking s n iv key aad g c tail h d)
+        ap (λ (f : Found). checkPieceIn f (T c tail) d .state) known ∙ rw in-time (Line.taken-on checking s n iv key aad g c tail d k)
 
     -- past its other causes, the end's answer is the tag's
     end-is : (tag : List ℕ) → length c ≡ n → length tag ≡ Nt s → checkEnd (T c tail) tag ≡ pick (not (same tag (Aead.tag s key iv aad c))) tagDiffers 0
@@ -173,11 +173,11 @@ module _ (s metadata bytes : List ℕ) (announced : ℕ) (state : List ℕ) (r :
         let k = head .most in
         let m = left .metadata-most in
         record {
-          nonce-size = nonce-length (r .salt) ctr (fit .1 .salt-length);
-          key-size = fit .1 .key-length ∙ key-named (r .suite) u found;
-          aad-least = simp length-append (omega arith);
-          aad-most = simp length-append (omega arith);
-          n-most = left .announced-most;
+          nonceSized = nonce-length (r .salt) ctr (fit .1 .salt-length);
+          keySized = fit .1 .key-length ∙ key-named (r .suite) u found;
+          least = simp length-append (omega arith);
+          most = simp length-append (omega arith);
+          announced = left .announced-most;
         }
 
     nt : length tag ≡ Nt u

@@ -22,7 +22,7 @@ use Rattle.suites.proofs.Laws.{nonce-length, ciphertext-length}
 use Rattle.pieces.specs.State.{sealing, announcedIn, takenIn}
 use Rattle.pieces.specs.Line.{stateAfter, begun}
 use Rattle.pieces.specs.Calls.{Result, concluded, past, early, wanting, sealPiece, sealEnd}
-use Rattle.piece_lines.proofs.Lines as Line
+use Rattle.pieces.proofs.Lines as Line
 use Rattle.key_record.specs.Record.{SendingKey, KeyRecord, sending, suiteOf as heldSuite}
 use Rattle.key_record.specs.Suites.{withSuite, tagSize}
 use Rattle.key_record.proofs.Codec.{Fit}
@@ -134,11 +134,11 @@ module _ (kid : ℕ) (metadata : List ℕ) (announced : ℕ) (state : List ℕ) 
         let f = p .fit in
         let l = header-length kid (r .counter) (rw (p .kid-is) at (f .0 .kid-below)) (omega (arith, p .counter-below)) in
         record {
-          nonce-size = nonce-length (r .salt) (r .counter) (f .1 .salt-length);
-          key-size = f .1 .key-length ∙ key-named (r .suite) s found;
-          aad-least = simp length-append (omega (arith, l .0));
-          aad-most = simp length-append (omega (arith, l .1, p .metadata-most));
-          n-most = p .announced-most;
+          nonceSized = nonce-length (r .salt) (r .counter) (f .1 .salt-length);
+          keySized = f .1 .key-length ∙ key-named (r .suite) s found;
+          least = simp length-append (omega (arith, l .0));
+          most = simp length-append (omega (arith, l .1, p .metadata-most));
+          announced = p .announced-most;
         }
 
     first-is : firstState sframe sealing (sending r) (r .counter) announced (hd ++ metadata) ≡ stateAfter sealing s announced iv (r .key) (hd ++ metadata) (ciphertext s (r .key) iv [])

@@ -21,7 +21,7 @@ use Rattle.suites.proofs.Laws.{ciphertext-length, tag-length}
 use Rattle.pieces.specs.State.{sealing, announcedIn, takenIn, fits, lineOf}
 use Rattle.pieces.specs.Line.{stateAfter, after, cipherPiece, tagIn}
 use Rattle.pieces.specs.Calls.{Result, concluded, past, early, wanting, sealPieceIn, sealPiece, sealEndIn, sealEnd}
-use Rattle.piece_lines.proofs.Lines as Line
+use Rattle.pieces.proofs.Lines as Line
 use Rattle.key_record.specs.Suites.{withSuite, isSuite}
 use Rattle.key_record.proofs.Suites.{named, key-named}
 use Rattle.store.specs.Sframe.{encryptBy, sframe}
@@ -81,16 +81,16 @@ module _ (num : ℕ) (s : Suite) (found : suiteOf num ≡ Known s) (key nonce aa
         pub c : List ℕ
         c = cipherPiece s (S p tail) q
 
-        joined : E (p ++ q) ≡ E p ++ c
+        joined : length p + length q ≤ n → E (p ++ q) ≡ E p ++ c
         unfolding c
-        joined = Line.cipher-on sealing s n nonce key aad g p q tail h
+        joined k = Line.cipher-on sealing s n nonce key aad g p q tail k
 
-        c-length : length c ≡ length q
-        c-length =
+        c-length : length p + length q ≤ n → length c ≡ length q
+        c-length k =
             let a = ciphertext-length s key nonce p in
             let b = ciphertext-length s key nonce (p ++ q) in
             let d = length-append p q in
-            let e : length (E (p ++ q)) ≡ length (E p) + length c = ap length joined ∙ length-append (E p) c in
+            let e : length (E (p ++ q)) ≡ length (E p) + length c = ap length (joined k) ∙ length-append (E p) c in
             omega arith
 
         unfoldable pub answered : Result
@@ -102,10 +102,10 @@ module _ (num : ℕ) (s : Suite) (found : suiteOf num ≡ Known s) (key nonce aa
           answers = refl;
           fits = k;
           wrote = refl;
-          state-is = Line.taken-on sealing s n nonce key aad g (E p) tail short c ∙ ap (λ (z : List ℕ). stateAfter sealing s n nonce key aad z ++ tail) (sym joined) ∙ sym (line-of (p ++ q) tail);
+          state-is = Line.taken-on sealing s n nonce key aad g (E p) tail c (omega (arith, k, c-length k, ciphertext-length s key nonce p)) ∙ ap (λ (z : List ℕ). stateAfter sealing s n nonce key aad z ++ tail) (sym (joined k)) ∙ sym (line-of (p ++ q) tail);
           more =
-              cut-is (p ++ q) ∙ joined
-              ∙ ap₂ _++_ (sym (cut-is p)) (sym (pasted-at room 0 c (omega arith)) ∙ ap (λ (k : ℕ). take k (pasted room 0 c)) c-length);
+              cut-is (p ++ q) ∙ joined k
+              ∙ ap₂ _++_ (sym (cut-is p)) (sym (pasted-at room 0 c (omega arith)) ∙ ap (λ (i : ℕ). take i (pasted room 0 c)) (c-length k));
         }
 
         pub piece-is : sealPiece (S p tail) q room ≡ concluded (first (wanting (past (S p tail) (length q)) (length q) (length room))) (S p tail) room answered
@@ -182,11 +182,11 @@ end-none room e = let z : _≡_ {A = ℕ} 16 0 = ap (λ (f : Found). sealEndIn f
 
 pub given-as : (num : ℕ) (s : Suite) → suiteOf num ≡ Known s → (key nonce aad : List ℕ) (n : ℕ) → Given num key nonce aad n → Line.Given s n nonce key aad
 given-as num s e key nonce aad n g = record {
-  nonce-size = g .usable .nonce-length;
-  key-size = g .usable .key-length ∙ key-named num s e;
-  aad-least = g .aad-least;
-  aad-most = g .aad-most;
-  n-most = g .n-most;
+  nonceSized = g .usable .nonce-length;
+  keySized = g .usable .key-length ∙ key-named num s e;
+  least = g .aad-least;
+  most = g .aad-most;
+  announced = g .n-most;
 }
 
 pub sframe-lines : Lines sframe

@@ -1,2 +1,0 @@
-mod Hashed
-pub mod Lines
