@@ -174,8 +174,15 @@ pieces-join suite s x y l o h =
   where
     longer : 168 ≤ length (after suite s x)
     longer =
-        rw (ap length (flat suite s l x), length-append (take 68 s) (bytes 4 (takenIn s + length x) ++ (H suite s l x ++ drop 168 s)), P-length suite s l,
-        length-append (bytes 4 (takenIn s + length x)) (H suite s l x ++ drop 168 s), T-length suite s l x, length-append (H suite s l x) (drop 168 s), H-length suite s l x) (omega arith)
+        rw (
+          ap length (flat suite s l x),
+          length-append (take 68 s) (bytes 4 (takenIn s + length x) ++ (H suite s l x ++ drop 168 s)),
+          P-length suite s l,
+          length-append (bytes 4 (takenIn s + length x)) (H suite s l x ++ drop 168 s),
+          T-length suite s l x,
+          length-append (H suite s l x) (drop 168 s),
+          H-length suite s l x,
+        ) (omega arith)
 
 -- Their ciphertext is that of both, one after the other.
 pub ciphers-join : (suite : Suite) (s x y : List ℕ) → 168 ≤ length s → takenIn s + length x ≤ 32768
