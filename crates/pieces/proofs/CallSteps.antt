@@ -48,10 +48,10 @@ module _ (s p room : List ℕ) (f : Found) (e : f ≡ lineOf sealing s) where
         let u : past s (length p) ≡ false = sym q ∙ t in
         leaves _ (refusal 12 s room) (piece-in (Known suite) k ∙ rw (u, lt-ltb (length room) (length p) h))
 
-    pub piece-done : r ≡ false → length p ≤ length room
+    pub piece-taken : r ≡ false → length p ≤ length room
         → Leaves (sealPiece s p room) 0 (length p) (after suite s (cipherPiece suite s p)) (pasted room 0 (cipherPiece suite s p))
     unfolding first wanting concluded
-    piece-done t h =
+    piece-taken t h =
         let u : past s (length p) ≡ false = sym q ∙ t in
         leaves _ (record { number = 0; written = length p; state = after suite s (cipherPiece suite s p); room = pasted room 0 (cipherPiece suite s p) })
         (piece-in (Known suite) k ∙ rw (u, le-ltb (length room) (length p) h))
@@ -77,9 +77,9 @@ module _ (s room : List ℕ) (f : Found) (e : f ≡ lineOf sealing s) where
           let w : length room < Nt suite = omega arith in
           leaves _ (refusal 12 s room) (end-in (Known suite) k ∙ rw (u, lt-ltb (length room) (Nt suite) w))
 
-      pub end-done : (o x : List ℕ) → n ≤ length room → x ≡ tagIn suite s → o ≡ pasted room 0 x → Leaves (sealEnd s room) 0 n s o
+      pub end-written : (o x : List ℕ) → n ≤ length room → x ≡ tagIn suite s → o ≡ pasted room 0 x → Leaves (sealEnd s room) 0 n s o
       unfolding first wanting concluded
-      end-done o x h g z =
+      end-written o x h g z =
           let u : early s ≡ false = sym q ∙ t in
           let w : Nt suite ≤ length room = omega arith in
           let l = leaves _ (record { number = 0; written = Nt suite; state = s; room = pasted room 0 (tagIn suite s) }) (end-in (Known suite) k ∙ rw (u, le-ltb (length room) (Nt suite) w)) in

@@ -56,6 +56,9 @@ to-else2-from-advance-at-arg c = c .before .before .before .before .before .befo
 abbrev to-write-line : tie.After-slice-known6 → tie.After-write-line
 to-write-line c = c .before .before .before .before .before .before .before .before
 
+abbrev to-else2 : tie.After-write-line-arg2 → tie.Else2
+to-else2 c = c .before .before .before .before
+
 -- ----
 
 returns : tie.Need-returns
@@ -102,11 +105,12 @@ row-at-requires-2 c κs =
 
 write-line-requires : tie.Need-write-line-requires
 write-line-requires c κs =
+    let at-else2 = to-else2 c in
     let at-judge = to-judge (c .before) in
     let at-i = to-i-from-judge at-judge in
     let at-else1 = to-else1-from-i at-i in
     let at-slice-known = to-slice-known-from-else1 at-else1 in
-    (c .before .before .row-at2 .ensures .0, judged-again (at-slice-known .before .args .store .now) (at-slice-known .before .args .kid .0) (at-slice-known .before .args .metadata .now) (at-slice-known .before .args .announced) (at-slice-known .before .args .state .now) (at-slice-known .before .args .room .now) (tested-sound (at-slice-known .before .args .store .now) (λ j. omega (arith, at-slice-known .slice-known .given j)) _ (at-else1 .before .is-sound .ensures) (at-else1 .if1 .left)) _ (at-i .before .before .find-near .ensures) _ (at-i .i .given .1) _ (at-judge .before .row-at .ensures) _ (at-judge .judge .ensures) (c .before .before .before .before .if2 .left) _ (c .before .before .row-at2 .ensures))
+    (c .before .before .row-at2 .ensures .0, judged-again (at-slice-known .before .args .store .now) (at-slice-known .before .args .kid .0) (at-slice-known .before .args .metadata .now) (at-slice-known .before .args .announced) (at-slice-known .before .args .state .now) (at-slice-known .before .args .room .now) (tested-sound (at-slice-known .before .args .store .now) (λ j. omega (arith, at-slice-known .slice-known .given j)) _ (at-else1 .before .is-sound .ensures) (at-else1 .if1 .left)) _ (at-i .before .before .find-near .ensures) _ (at-i .i .given .1) _ (at-judge .before .row-at .ensures) _ (at-judge .judge .ensures) (at-else2 .if2 .left) _ (c .before .before .row-at2 .ensures))
 
 advance-at-requires : tie.Need-advance-at-requires
 advance-at-requires c κs =

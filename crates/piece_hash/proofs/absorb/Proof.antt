@@ -62,9 +62,21 @@ slice-aggregate-absorb-3 c = search needs
 absorb-requires-2 : tie.Need-absorb-requires-2
 absorb-requires-2 c κs = search needs
 
+-- ---- points of the program, each reached from a later one
+
+abbrev to-joined : tie.After-absorb2 → tie.After-joined
+to-joined c = c .before .before .before .before .before .before
+
+abbrev to-start : tie.After-joined → tie.Start
+to-start c = c .before .before .before .before .before
+
+-- ----
+
 returns-2 : tie.Need-returns-2
 returns-2 c =
-    absorbed _ _ _ _ (c .before .before .before .before .before .before .before .before .before .before .before .args .front .now) (c .before .before .before .before .before .before .before .before .before .before .before .args .c .now) _ (16 - length (c .before .before .before .before .before .before .before .before .before .before .before .args .front .now)) _ (omega arith) (omega arith) refl (c .before .before .before .before .before .before .joined .ensures .0) (c .before .before .before .absorb .ensures) (c .absorb2 .ensures)
+    let at-joined = to-joined c in
+    let at-start = to-start at-joined in
+    absorbed _ _ _ _ (at-start .args .front .now) (at-start .args .c .now) _ (16 - length (at-start .args .front .now)) _ (omega arith) (omega arith) refl (at-joined .joined .ensures .0) (c .before .before .before .absorb .ensures) (c .absorb2 .ensures)
 
 pub absorb-spec : {M : Type 1} → statement M
 absorb-spec =

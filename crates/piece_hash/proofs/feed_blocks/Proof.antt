@@ -34,9 +34,21 @@ save-rest-requires c κs = search needs
 same-length : tie.Need-same-length
 same-length c = search needs
 
+-- ---- points of the program, each reached from a later one
+
+abbrev to-absorb : tie.After-slice-known2 → tie.After-absorb
+to-absorb c = c .before .before .before .before
+
+abbrev to-start : tie.After-absorb → tie.Start
+to-start c = c .before .before .before .before .before .before .before
+
+-- ----
+
 returns : tie.Need-returns
 returns c =
-    fed-blocks _ _ _ (c .before .before .before .before .before .before .before .before .before .before .before .args .n) _ (c .before .before .before .before .before .before .before .before .before .before .before .args .b .now) (c .before .before .before .before .before .before .before .before .before .before .before .args .c .now) _ (omega arith) refl (c .before .before .before .before .before .before .before .load .ensures) (c .before .before .before .before .absorb .ensures) (c .before .before .save-rest .ensures)
+    let at-absorb = to-absorb c in
+    let at-start = to-start at-absorb in
+    fed-blocks _ _ _ (at-start .args .n) _ (at-start .args .b .now) (at-start .args .c .now) _ (omega arith) refl (at-absorb .before .before .before .load .ensures) (at-absorb .absorb .ensures) (c .before .before .save-rest .ensures)
 
 pub feed-blocks-spec : {M : Type 1} → statement M
 feed-blocks-spec =

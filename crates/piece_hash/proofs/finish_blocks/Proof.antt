@@ -30,9 +30,17 @@ slice-aggregate-absorb c = search needs
 absorb-requires : tie.Need-absorb-requires
 absorb-requires c κs = search needs
 
+-- ---- points of the program, each reached from a later one
+
+abbrev to-start : tie.After-absorb → tie.Start
+to-start c = c .before .before .before .before .before
+
+-- ----
+
 returns : tie.Need-returns
 returns c =
-    ended-blocks _ _ _ (c .before .before .before .before .before .args .n) _ (c .before .before .before .before .before .args .b .now) (omega arith) refl (c .before .before .before .load .ensures) (c .absorb .ensures)
+    let at-start = to-start c in
+    ended-blocks _ _ _ (at-start .args .n) _ (at-start .args .b .now) (omega arith) refl (c .before .before .before .load .ensures) (c .absorb .ensures)
 
 pub finish-blocks-spec : {M : Type 1} → statement M
 finish-blocks-spec =

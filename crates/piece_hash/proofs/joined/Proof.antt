@@ -21,9 +21,21 @@ slice-aggregate-copy-at-2 c = search needs
 copy-at-requires-2 : tie.Need-copy-at-requires-2
 copy-at-requires-2 c κs = search needs
 
+-- ---- points of the program, each reached from a later one
+
+abbrev to-copy-at : tie.After-block4 → tie.After-copy-at
+to-copy-at c = c .before .before .before .before
+
+abbrev to-start : tie.After-copy-at → tie.Start
+to-start c = c .before .before .before .before
+
+-- ----
+
 returns : tie.Need-returns
 returns c =
-    (filled _ (c .before .before .before .before .before .before .before .before .args .front .now) (c .before .before .before .before .before .before .before .before .args .back .now) _ _ (length (c .before .before .before .before .before .before .before .before .args .front .now)) refl (omega arith) (c .before .before .before .before .copy-at .ensures) (c .before .copy-at2 .ensures), search needs)
+    let at-copy-at = to-copy-at c in
+    let at-start = to-start at-copy-at in
+    (filled _ (at-start .args .front .now) (at-start .args .back .now) _ _ (length (at-start .args .front .now)) refl (omega arith) (at-copy-at .copy-at .ensures) (c .before .copy-at2 .ensures), search needs)
 
 pub joined-spec : {M : Type 1} → statement M
 joined-spec =

@@ -26,9 +26,17 @@ slice-aggregate-room c = search needs
 room-requires : tie.Need-room-requires
 room-requires c κs = search needs
 
+-- ---- points of the program, each reached from a later one
+
+abbrev to-start : tie.After-room → tie.Start
+to-start c = c .before .before .before .before .before
+
+-- ----
+
 returns : tie.Need-returns
 returns c =
-    loaded (c .before .before .before .before .before .args .b .now) _ _ (c .before .before .before .before .before .args .n) (omega arith) (c .before .before .before .words .ensures) (c .room .ensures)
+    let at-start = to-start c in
+    loaded (at-start .args .b .now) _ _ (at-start .args .n) (omega arith) (c .before .before .before .words .ensures) (c .room .ensures)
 
 pub load-spec : {M : Type 1} → statement M
 load-spec =

@@ -23,9 +23,17 @@ put-requires c κs = search needs
 same-length : tie.Need-same-length
 same-length c = search needs
 
+-- ---- points of the program, each reached from a later one
+
+abbrev to-digest : tie.After-slice-known2 → tie.After-digest
+to-digest c = c .before .before .before .before .before .before .before
+
+-- ----
+
 returns : tie.Need-returns
 returns c =
-    saved (state256 (c .before .before .before .before .before .before .before .before .before .args .h)) _ _ (c .before .before .before .before .before .before .before .digest .ensures) (c .before .before .put .ensures)
+    let at-digest = to-digest c in
+    saved (state256 (at-digest .before .before .args .h)) _ _ (at-digest .digest .ensures) (c .before .before .put .ensures)
 
 pub save-spec : {M : Type 1} → statement M
 save-spec =

@@ -32,9 +32,21 @@ put-requires c κs = search needs
 same-length : tie.Need-same-length
 same-length c = search needs
 
+-- ---- points of the program, each reached from a later one
+
+abbrev to-room : tie.After-slice-known2 → tie.After-room
+to-room c = c .before .before .before .before .before .before
+
+abbrev to-start : tie.After-room → tie.Start
+to-start c = c .before .before .before .before .before .before .before
+
+-- ----
+
 returns : tie.Need-returns
 returns c =
-    block-kept _ (c .before .before .before .before .before .before .before .before .before .before .before .before .before .args .waiting .now) _ _ _ (c .before .before .before .before .before .before .before .before .before .store .ensures) (c .before .before .before .before .before .before .room .ensures) (c .before .before .put .ensures)
+    let at-room = to-room c in
+    let at-start = to-start at-room in
+    block-kept _ (at-start .args .waiting .now) _ _ _ (at-room .before .before .before .store .ensures) (at-room .room .ensures) (c .before .before .put .ensures)
 
 pub save-block-spec : {M : Type 1} → statement M
 save-block-spec =

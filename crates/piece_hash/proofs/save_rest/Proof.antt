@@ -47,10 +47,25 @@ save-block-requires c κs =
 same-length : tie.Need-same-length
 same-length c = search needs
 
+-- ---- points of the program, each reached from a later one
+
+abbrev to-room : tie.After-slice-known2 → tie.After-room
+to-room c = c .before .before .before .before .before
+
+abbrev to-start : tie.After-room → tie.Start
+to-start c = c .before .before .before .before .before .before
+
+abbrev to-start-from-slice-known3 : tie.After-slice-known3 → tie.Start
+to-start-from-slice-known3 c = c .before .before .before .before .before .before .before .before
+
+-- ----
+
 returns : tie.Need-returns
 returns c =
-    let s = c .before .before .before .before .before .before .before .before .before .before .before in
-    kept-short _ (s .args .b .now) (s .args .c .now) _ _ (s .args .n) _ _ (omega arith) (omega arith) refl refl (omega arith) (c .before .before .before .before .before .room .ensures) (c .before .before .save-block .ensures)
+    let at-room = to-room c in
+    let at-start = to-start at-room in
+    let s = at-start in
+    kept-short _ (s .args .b .now) (s .args .c .now) _ _ (s .args .n) _ _ (omega arith) (omega arith) refl refl (omega arith) (at-room .room .ensures) (c .before .before .save-block .ensures)
 
 add-from : tie.Need-add-from
 add-from c = search needs
@@ -75,7 +90,8 @@ same-length-2 c = search needs
 
 returns-2 : tie.Need-returns-2
 returns-2 c =
-    let s = c .before .before .before .before .before .before .before .before in
+    let at-start = to-start-from-slice-known3 c in
+    let s = at-start in
     kept-long _ (s .args .b .now) (s .args .c .now) _ (s .args .n) _ (omega arith) (omega arith) (omega arith) refl (c .before .before .save-block2 .ensures)
 
 pub save-rest-spec : {M : Type 1} → statement M

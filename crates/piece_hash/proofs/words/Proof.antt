@@ -93,20 +93,40 @@ part-read-be32-start-7 c = search needs
 part-read-be32-end-7 : tie.Need-part-read-be32-end-7
 part-read-be32-end-7 c = search needs
 
+-- ---- points of the program, each reached from a later one
+
+abbrev to-start : tie.After-read-be32-arg7 → tie.Start
+to-start c = c .before .before .before .before .before .before .before .before .before .before .before .before .before .before .before
+
+abbrev to-read-be326 : tie.After-read-be328 → tie.After-read-be326
+to-read-be326 c = c .before .before .before .before
+
+abbrev to-read-be324 : tie.After-read-be326 → tie.After-read-be324
+to-read-be324 c = c .before .before .before .before
+
+abbrev to-read-be322 : tie.After-read-be324 → tie.After-read-be322
+to-read-be322 c = c .before .before .before .before
+
+-- ----
+
 read-be32-requires-8 : tie.Need-read-be32-requires-8
 read-be32-requires-8 c κs =
-    let s = c .before .before .before .before .before .before .before .before .before .before .before .before .before .before .before in
+    let at-start = to-start c in
+    let s = at-start in
     let h : 28 + 4 ≤ length (s .args .b .now) = s .pre in
     word-lent (s .args .b .now) 28 h
 
 returns : tie.Need-returns
 returns c =
-    words-read _ _ _ _ _ _ _ _ _ (c .before .before .before .before .before .before .before .before .before .before .before .before .before .before .read-be32 .ensures)
-    (c .before .before .before .before .before .before .before .before .before .before .before .before .read-be322 .ensures)
-    (c .before .before .before .before .before .before .before .before .before .before .read-be323 .ensures)
-    (c .before .before .before .before .before .before .before .before .read-be324 .ensures)
-    (c .before .before .before .before .before .before .read-be325 .ensures)
-    (c .before .before .before .before .read-be326 .ensures)
+    let at-read-be326 = to-read-be326 c in
+    let at-read-be324 = to-read-be324 at-read-be326 in
+    let at-read-be322 = to-read-be322 at-read-be324 in
+    words-read _ _ _ _ _ _ _ _ _ (at-read-be322 .before .before .read-be32 .ensures)
+    (at-read-be322 .read-be322 .ensures)
+    (at-read-be324 .before .before .read-be323 .ensures)
+    (at-read-be324 .read-be324 .ensures)
+    (at-read-be326 .before .before .read-be325 .ensures)
+    (at-read-be326 .read-be326 .ensures)
     (c .before .before .read-be327 .ensures)
     (c .read-be328 .ensures)
 

@@ -45,10 +45,22 @@ same-length c = search needs
 same-length-2 : tie.Need-same-length-2
 same-length-2 c = search needs
 
+-- ---- points of the program, each reached from a later one
+
+abbrev to-cipher-piece : tie.After-slice-known4 → tie.After-cipher-piece
+to-cipher-piece c = c .before .before .before .before .before .before .before .before .before
+
+abbrev to-start : tie.After-cipher-piece → tie.Start
+to-start c = c .before .before .before .before .before .before .before .before .before
+
+-- ----
+
 returns : tie.Need-returns
 returns c =
-    let s = c .before .before .before .before .before .before .before .before .before .before .before .before .before .before .before .before .before .before in
-    let x = c .before .before .before .before .before .before .before .before .before .cipher-piece .ensures in
+    let at-cipher-piece = to-cipher-piece c in
+    let at-start = to-start at-cipher-piece in
+    let s = at-start in
+    let x = at-cipher-piece .cipher-piece .ensures in
     let l : length (cipherPiece (s .args .suite) (s .args .state .now) (s .args .piece .now)) ≡ length (s .args .piece .now) = cipher-length (s .args .suite) (s .args .state .now) (s .args .piece .now) in
     (c .before .before .take-in .ensures ∙ ap (after (s .args .suite) (s .args .state .now)) (read-back (s .args .room .now) _ _ (length (s .args .piece .now)) l x), lent-front (s .args .room .now) _ _ (length (s .args .piece .now)) l (s .pre .2) x)
 

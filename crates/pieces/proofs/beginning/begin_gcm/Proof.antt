@@ -22,9 +22,26 @@ slice-aggregate-context c = search needs
 context-requires : tie.Need-context-requires
 context-requires c κs = search needs
 
+-- ---- points of the program, each reached from a later one
+
+abbrev to-start : tie.After-ctx3 → tie.Start
+to-start c = c .before .before .before .before .before .before .before .before .before .before
+
+abbrev to-absorb : tie.After-slice-known2 → tie.After-absorb
+to-absorb c = c .before .before .before .before .before
+
+abbrev to-context : tie.After-absorb → tie.After-context
+to-context c = c .before .before .before .before .before
+
+abbrev to-start-from-context : tie.After-context → tie.Start
+to-start-from-context c = c .before .before .before .before .before .before .before .before
+
+-- ----
+
 hash-key-requires : tie.Need-hash-key-requires
 hash-key-requires c κs =
-    (ready _ _ (c .before .before .context .ensures), c .before .before .before .before .before .before .before .before .before .before .pre .0 .2)
+    let at-start = to-start c in
+    (ready _ _ (c .before .before .context .ensures), at-start .pre .0 .2)
 
 absorb-requires : tie.Need-absorb-requires
 absorb-requires c κs = search needs
@@ -40,8 +57,11 @@ same-length c = search needs
 
 returns : tie.Need-returns
 returns c =
-    let s = c .before .before .before .before .before .before .before .before .before .before .before .before .before .before .before .before .before .before in
-    begun-gcm _ _ (s .args .key .now) _ _ _ (s .args .nonce .now) (s .args .suite) _ 0 0 (s .pre .0 .1) (s .pre .0 .0) (c .before .before .before .before .before .before .before .before .before .before .context .ensures) (c .before .before .before .before .before .before .before .hash-key .ensures) (c .before .before .before .before .before .absorb .ensures) refl (c .before .before .save-block .ensures)
+    let at-absorb = to-absorb c in
+    let at-context = to-context at-absorb in
+    let at-start = to-start-from-context at-context in
+    let s = at-start in
+    begun-gcm _ _ (s .args .key .now) _ _ _ (s .args .nonce .now) (s .args .suite) _ 0 0 (s .pre .0 .1) (s .pre .0 .0) (at-context .context .ensures) (at-absorb .before .before .hash-key .ensures) (at-absorb .absorb .ensures) refl (c .before .before .save-block .ensures)
 
 pub begin-gcm-spec : {M : Type 1} → statement M
 begin-gcm-spec =

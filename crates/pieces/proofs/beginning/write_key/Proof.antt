@@ -26,10 +26,26 @@ write-be-at-requires c κs = search needs
 same-length : tie.Need-same-length
 same-length c = search needs
 
+-- ---- points of the program, each reached from a later one
+
+abbrev to-copy-at : tie.After-slice-known3 → tie.After-copy-at
+to-copy-at c = c .before .before .before .before .before .before
+
+abbrev to-copy : tie.After-copy-at → tie.After-copy
+to-copy c = c .before .before .before .before
+
+abbrev to-start : tie.After-copy → tie.Start
+to-start c = c .before .before .before .before
+
+-- ----
+
 returns : tie.Need-returns
 returns c =
-    let s = c .before .before .before .before .before .before .before .before .before .before .before .before .before .before in
-    key-written (s .args .state .now) (s .args .key .now) _ _ _ (s .pre .0) (s .pre .1) (c .before .before .before .before .before .before .before .before .before .before .copy .ensures) (c .before .before .before .before .before .before .copy-at .ensures) (c .before .before .write-be-at .ensures)
+    let at-copy-at = to-copy-at c in
+    let at-copy = to-copy at-copy-at in
+    let at-start = to-start at-copy in
+    let s = at-start in
+    key-written (s .args .state .now) (s .args .key .now) _ _ _ (s .pre .0) (s .pre .1) (at-copy .copy .ensures) (at-copy-at .copy-at .ensures) (c .before .before .write-be-at .ensures)
 
 pub write-key-spec : {M : Type 1} → statement M
 write-key-spec =

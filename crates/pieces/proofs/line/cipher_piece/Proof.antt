@@ -26,9 +26,23 @@ part-apply-from-start c = search needs
 part-apply-from-end : tie.Need-part-apply-from-end
 part-apply-from-end c = search needs
 
+-- ---- points of the program, each reached from a later one
+
+abbrev to-start : tie.After-apply-from-arg2 → tie.Start
+to-start c = c .before .before .before .before .before .before .before
+
+abbrev to-taken-of : tie.After-slice-known2 → tie.After-taken-of
+to-taken-of c = c .before .before .before .before .before
+
+abbrev to-start-from-taken-of : tie.After-taken-of → tie.Start
+to-start-from-taken-of c = c .before .before .before .before .before
+
+-- ----
+
 apply-from-requires : tie.Need-apply-from-requires
 apply-from-requires c κs =
-    let s = c .before .before .before .before .before .before .before in
+    let at-start = to-start c in
+    let s = at-start in
     let t = c .before .before .taken-of .ensures in
     let n = c .before .before .before .first-count .ensures in
     let m = s .pre .1 .0 in
@@ -39,8 +53,10 @@ same-length c = search needs
 
 returns : tie.Need-returns
 returns c =
-    let s = c .before .before .before .before .before .before .before .before .before .before in
-    ciphered (s .args .state .now) (s .args .ctx .now) (s .args .piece .now) _ (s .args .suite) _ _ (s .pre .0 .1) (c .before .before .before .before .before .before .first-count .ensures .0) (c .before .before .before .before .before .taken-of .ensures .0) (c .before .before .apply-from .ensures)
+    let at-taken-of = to-taken-of c in
+    let at-start = to-start-from-taken-of at-taken-of in
+    let s = at-start in
+    ciphered (s .args .state .now) (s .args .ctx .now) (s .args .piece .now) _ (s .args .suite) _ _ (s .pre .0 .1) (at-taken-of .before .first-count .ensures .0) (at-taken-of .taken-of .ensures .0) (c .before .before .apply-from .ensures)
 
 pub cipher-piece-spec : {M : Type 1} → statement M
 cipher-piece-spec =

@@ -29,10 +29,18 @@ part-context-end c = search needs
 context-requires : tie.Need-context-requires
 context-requires c κs = search needs
 
+-- ---- points of the program, each reached from a later one
+
+abbrev to-key-end : tie.After-ctx2 → tie.After-key-end
+to-key-end c = c .before .before .before .before .before
+
+-- ----
+
 returns : tie.Need-returns
 returns c =
-    let s = c .before .before .before .before .before .before .before .args in
-    context-part (s .state .now) _ (s .suite) _ (c .before .before .before .before .before .key-end .ensures .0) (c .before .context .ensures)
+    let at-key-end = to-key-end c in
+    let s = at-key-end .before .before .args in
+    context-part (s .state .now) _ (s .suite) _ (at-key-end .key-end .ensures .0) (c .before .context .ensures)
 
 pub context-of-spec : {M : Type 1} → statement M
 context-of-spec =

@@ -102,10 +102,30 @@ part-xor-end c = search needs
 xor-requires : tie.Need-xor-requires
 xor-requires c κs = search needs
 
+-- ---- points of the program, each reached from a later one
+
+abbrev to-store : tie.After-t4 → tie.After-store
+to-store c = c .before .before .before .before .before .before
+
+abbrev to-aad-of : tie.After-store → tie.After-aad-of
+to-aad-of c = c .before .before .before .before .before
+
+abbrev to-hash-key : tie.After-aad-of → tie.After-hash-key
+to-hash-key c = c .before .before .before .before
+
+abbrev to-taken-of : tie.After-hash-key → tie.After-taken-of
+to-taken-of c = c .before .before .before .before .before
+
+-- ----
+
 returns : tie.Need-returns
 returns c =
-    let s = c .before .before .before .before .before .before .before .before .before .before .before .before .before .before .before .before .before .before .before .before .before .before in
-    (ended-gcm (s .args .state .now) (s .args .ctx .now) _ _ _ _ (replicate 16 0) (s .args .suite) _ _ _ _ _ _ (s .pre .0 .0) (s .pre .0 .2) (s .pre .1) (c .before .before .before .before .before .before .before .before .before .before .before .before .before .before .before .before .before .before .front .ensures) (c .before .before .before .before .before .before .before .before .before .before .before .before .before .before .before .hash-key .ensures) (c .before .before .before .before .before .before .before .before .before .before .before .aad-of .ensures .0) (c .before .before .before .before .before .before .before .before .before .before .before .before .before .before .before .before .before .before .before .before .taken-of .ensures .0) refl (c .before .before .before .before .before .before .before .before .before .before .before .before .finish-blocks .ensures) (c .before .before .before .before .before .before .before .before .before .plus .ensures) (c .before .before .before .before .before .before .before .before .times .ensures) refl (c .before .before .before .before .before .before .store .ensures) (c .before .xor .ensures), search needs)
+    let at-store = to-store c in
+    let at-aad-of = to-aad-of at-store in
+    let at-hash-key = to-hash-key at-aad-of in
+    let at-taken-of = to-taken-of at-hash-key in
+    let s = at-taken-of .before .before in
+    (ended-gcm (s .args .state .now) (s .args .ctx .now) _ _ _ _ (replicate 16 0) (s .args .suite) _ _ _ _ _ _ (s .pre .0 .0) (s .pre .0 .2) (s .pre .1) (at-hash-key .before .before .before .front .ensures) (at-hash-key .hash-key .ensures) (at-aad-of .aad-of .ensures .0) (at-taken-of .taken-of .ensures .0) refl (at-aad-of .before .finish-blocks .ensures) (at-store .before .before .before .plus .ensures) (at-store .before .before .times .ensures) refl (at-store .store .ensures) (c .before .xor .ensures), search needs)
 
 pub gcm-tag-spec : {M : Type 1} → statement M
 gcm-tag-spec =

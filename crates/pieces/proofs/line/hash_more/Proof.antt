@@ -58,9 +58,35 @@ part-hash-key-start c = search needs
 part-hash-key-end : tie.Need-part-hash-key-end
 part-hash-key-end c = search needs
 
+-- ---- points of the program, each reached from a later one
+
+abbrev to-start : tie.After-hash-key-arg → tie.Start
+to-start c = c .before .before .before .before .before .before .before .before .before
+
+abbrev to-start-from-feed-blocks-arg : tie.After-feed-blocks-arg → tie.Start
+to-start-from-feed-blocks-arg c = c .before .before .before .before .before .before .before .before .before .before .before .before
+
+abbrev to-aad-of : tie.After-slice-known2 → tie.After-aad-of
+to-aad-of c = c .before .before .before .before
+
+abbrev to-mode : tie.After-aad-of → tie.After-mode
+to-mode c = c .before .before .before .before
+
+abbrev to-start-from-mode : tie.After-mode → tie.Start
+to-start-from-mode c = c .before .before .before .before .before
+
+abbrev to-hash-key : tie.After-slice-known3 → tie.After-hash-key
+to-hash-key c = c .before .before .before .before .before
+
+abbrev to-mode-from-hash-key : tie.After-hash-key → tie.After-mode
+to-mode-from-hash-key c = c .before .before .before .before .before
+
+-- ----
+
 hash-key-requires : tie.Need-hash-key-requires
 hash-key-requires c κs =
-    let s = c .before .before .before .before .before .before .before .before .before in
+    let at-start = to-start c in
+    let s = at-start in
     (ready _ _ (s .pre .0 .1), length-take-le 12 (drop 8 (s .args .state .now)) (rw (length-drop 8 (s .args .state .now)) (omega arith)))
 
 sub-feed-blocks : tie.Need-sub-feed-blocks
@@ -74,7 +100,8 @@ part-feed-blocks-end c = search needs
 
 feed-blocks-requires : tie.Need-feed-blocks-requires
 feed-blocks-requires c κs =
-    let s = c .before .before .before .before .before .before .before .before .before .before .before .before in
+    let at-start = to-start-from-feed-blocks-arg c in
+    let s = at-start in
     (hash-key-ready (c .before .before .hash-key .ensures), (length-take-le 96 (drop 72 (s .args .state .now)) (rw (length-drop 72 (s .args .state .now)) (omega arith)), omega arith, omega arith))
 
 same-length : tie.Need-same-length
@@ -82,20 +109,26 @@ same-length c = search needs
 
 returns : tie.Need-returns
 returns c =
-    let s = c .before .before .before .before .before .before .before .before .before .before .before .before .before in
-    let m = c .before .before .before .before .before .before .before .before .mode in
+    let at-aad-of = to-aad-of c in
+    let at-mode = to-mode at-aad-of in
+    let at-start = to-start-from-mode at-mode in
+    let s = at-start in
+    let m = at-mode .mode in
     lent-hash (s .args .state .now) _ _ (s .pre .0 .0) (c .before .before .feed .kept .0)
-    (more-hmac (s .args .state .now) (s .args .c .now) _ (s .args .suite) _ _ _ _ (m .ensures) (c .before .before .before .before .before .before .enum-told .given .1) (c .before .before .before .before .aad-of .ensures .0) (c .before .before .before .before .before .before .before .before .before .taken-of .ensures .0) refl (c .before .before .feed .ensures))
+    (more-hmac (s .args .state .now) (s .args .c .now) _ (s .args .suite) _ _ _ _ (m .ensures) (at-aad-of .before .before .enum-told .given .1) (at-aad-of .aad-of .ensures .0) (at-mode .before .taken-of .ensures .0) refl (c .before .before .feed .ensures))
 
 same-length-2 : tie.Need-same-length-2
 same-length-2 c = search needs
 
 returns-2 : tie.Need-returns-2
 returns-2 c =
-    let s = c .before .before .before .before .before .before .before .before .before .before .before .before .before .before .before in
-    let m = c .before .before .before .before .before .before .before .before .before .before .mode in
+    let at-hash-key = to-hash-key c in
+    let at-mode = to-mode-from-hash-key at-hash-key in
+    let at-start = to-start-from-mode at-mode in
+    let s = at-start in
+    let m = at-mode .mode in
     lent-hash (s .args .state .now) _ _ (s .pre .0 .0) (c .before .before .feed-blocks .kept .1 .0)
-    (more-gcm (s .args .state .now) (s .args .c .now) _ (s .args .ctx .now) _ (s .args .suite) _ _ _ (s .pre .0 .0) (m .ensures) (c .before .before .before .before .before .before .before .before .enum-told2 .given .1) (s .pre .0 .1) (c .before .before .before .before .before .hash-key .ensures) (c .before .before .before .before .before .before .before .before .before .before .before .taken-of .ensures .0) refl (c .before .before .feed-blocks .ensures))
+    (more-gcm (s .args .state .now) (s .args .c .now) _ (s .args .ctx .now) _ (s .args .suite) _ _ _ (s .pre .0 .0) (m .ensures) (at-hash-key .before .before .before .enum-told2 .given .1) (s .pre .0 .1) (at-hash-key .hash-key .ensures) (at-mode .before .taken-of .ensures .0) refl (c .before .before .feed-blocks .ensures))
 
 pub hash-more-spec : {M : Type 1} → statement M
 hash-more-spec =

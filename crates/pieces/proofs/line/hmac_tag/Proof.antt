@@ -79,10 +79,26 @@ part-copy-end c = search needs
 copy-requires : tie.Need-copy-requires
 copy-requires c κs = search needs
 
+-- ---- points of the program, each reached from a later one
+
+abbrev to-sha256-of : tie.After-t2 → tie.After-sha256-of
+to-sha256-of c = c .before .before .before .before .before
+
+abbrev to-block-key : tie.After-sha256-of → tie.After-block-key
+to-block-key c = c .before .before .before .before .before
+
+abbrev to-taken-of : tie.After-block-key → tie.After-taken-of
+to-taken-of c = c .before .before .before .before
+
+-- ----
+
 returns : tie.Need-returns
 returns c =
-    let s = c .before .before .before .before .before .before .before .before .before .before .before .before .before .before .before .before .before in
-    ended-hmac (s .args .state .now) _ _ _ _ _ _ (s .args .suite) _ _ _ (s .pre .2) (c .before .before .before .before .before .before .before .before .before .before .before .before .before .before .before .aad-of .ensures .0) (c .before .before .before .before .before .before .before .before .before .before .before .before .before .before .taken-of .ensures .0) refl (c .before .before .before .before .before .before .before .before .before .before .before .before .finish .ensures .0) (c .before .before .before .before .before .before .before .before .before .before .block-key .ensures .0) (c .before .before .before .before .before .before .before .before .masked-block .ensures .0) (c .before .before .before .before .before .sha256-of .ensures .0) (c .before .before .before .before .before .sha256-of .ensures .1) refl (c .before .copy .ensures)
+    let at-sha256-of = to-sha256-of c in
+    let at-block-key = to-block-key at-sha256-of in
+    let at-taken-of = to-taken-of at-block-key in
+    let s = at-taken-of .before .before .before in
+    ended-hmac (s .args .state .now) _ _ _ _ _ _ (s .args .suite) _ _ _ (s .pre .2) (at-taken-of .before .aad-of .ensures .0) (at-taken-of .taken-of .ensures .0) refl (at-block-key .before .before .finish .ensures .0) (at-block-key .block-key .ensures .0) (at-sha256-of .before .before .before .masked-block .ensures .0) (at-sha256-of .sha256-of .ensures .0) (at-sha256-of .sha256-of .ensures .1) refl (c .before .copy .ensures)
 
 pub hmac-tag-spec : {M : Type 1} → statement M
 hmac-tag-spec =

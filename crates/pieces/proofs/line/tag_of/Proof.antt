@@ -35,10 +35,18 @@ returns : tie.Need-returns
 returns c =
     c .hmac-tag .ensures
 
+-- ---- points of the program, each reached from a later one
+
+abbrev to-mode : tie.After-gcm-tag → tie.After-mode
+to-mode c = c .before .before .before .before .before
+
+-- ----
+
 returns-2 : tie.Need-returns-2
 returns-2 c =
-    let s = c .before .before .before .before .before .before .before .args .suite in
-    let n = gcm-sizes s (sym (c .before .before .before .before .before .mode .ensures) ∙ c .before .before .before .enum-told2 .given .1) in
+    let at-mode = to-mode c in
+    let s = at-mode .before .before .args .suite in
+    let n = gcm-sizes s (sym (at-mode .mode .ensures) ∙ c .before .before .before .enum-told2 .given .1) in
     (take-all (Nt s) _ (omega (arith, c .gcm-tag .ensures .1, n)) ∙ c .gcm-tag .ensures .0, c .gcm-tag .ensures .1)
 
 pub tag-of-spec : {M : Type 1} → statement M

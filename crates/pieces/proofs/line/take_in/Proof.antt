@@ -24,10 +24,22 @@ write-be-at-requires c κs = search needs
 same-length : tie.Need-same-length
 same-length c = search needs
 
+-- ---- points of the program, each reached from a later one
+
+abbrev to-hash-more : tie.After-slice-known3 → tie.After-hash-more
+to-hash-more c = c .before .before .before .before .before .before
+
+abbrev to-start : tie.After-hash-more → tie.Start
+to-start c = c .before .before .before .before .before .before
+
+-- ----
+
 returns : tie.Need-returns
 returns c =
-    let s = c .before .before .before .before .before .before .before .before .before .before .before .before in
-    taken-in (s .args .state .now) _ _ _ (s .args .suite) (s .args .c .now) _ (s .pre .0 .0) (c .before .before .before .before .before .before .before .before .taken-of .ensures .0) refl (c .before .before .before .before .before .before .hash-more .ensures) (c .before .before .write-be-at .ensures)
+    let at-hash-more = to-hash-more c in
+    let at-start = to-start at-hash-more in
+    let s = at-start in
+    taken-in (s .args .state .now) _ _ _ (s .args .suite) (s .args .c .now) _ (s .pre .0 .0) (at-hash-more .before .before .taken-of .ensures .0) refl (at-hash-more .hash-more .ensures) (c .before .before .write-be-at .ensures)
 
 pub take-in-spec : {M : Type 1} → statement M
 take-in-spec =
