@@ -120,7 +120,7 @@ module _ (suite : Suite) (n : ℕ) (nonce key aad : List ℕ) (g : Given suite n
     pub piece-done : (x room : List ℕ) → length p + length x ≤ n → length x ≤ length room
         → sealPiece (Sealed p) x room ≡ record { number = 0; written = length x; state = Sealed (p ++ x); room = pasted room 0 (drop (length p) (E (p ++ x))) }
     piece-done x room k l =
-        let t = Steps.piece-done (Sealed p) x room (Known suite) line suite refl (past (Sealed p) (length x)) refl (past-no (Sealed p) n (length p) (length x) announced taken k) l in
+        let t = Steps.piece-taken (Sealed p) x room (Known suite) line suite refl (past (Sealed p) (length x)) refl (past-no (Sealed p) n (length p) (length x) announced taken k) l in
         let d = cipherPiece suite (Sealed p) x in
         let on : E (p ++ x) ≡ E p ++ d = cipher-on sealing suite n nonce key aad g p x rest k in
         let st : after suite (Sealed p) d ≡ Sealed (p ++ x) =
@@ -142,7 +142,7 @@ module _ (suite : Suite) (n : ℕ) (nonce key aad : List ℕ) (g : Given suite n
         → sealEnd (Sealed p) room ≡ record { number = 0; written = Nt suite; state = Sealed p; room = pasted room 0 (Aead.tag suite key nonce aad (E p)) }
     end-done room k l =
         let g′ = tag-is sealing suite n nonce key aad g (E p) rest (E-length ∙ k) in
-        let t = Steps.end-done (Sealed p) room (Known suite) line suite refl (early (Sealed p)) refl (Nt suite) refl (early-no (Sealed p) n (length p) announced taken k) (pasted room 0 (tagIn suite (Sealed p))) (tagIn suite (Sealed p)) l refl refl in
+        let t = Steps.end-written (Sealed p) room (Known suite) line suite refl (early (Sealed p)) refl (Nt suite) refl (early-no (Sealed p) n (length p) announced taken k) (pasted room 0 (tagIn suite (Sealed p))) (tagIn suite (Sealed p)) l refl refl in
         result (sym (t .0 .0)) (sym (t .0 .1)) (sym (t .1 .0)) (sym (t .1 .1) ∙ ap (pasted room 0) g′)
 
     pub end-cause : (room : List ℕ) → sealEnd (Sealed p) room .number ≡ 0 → (length p ≡ n) × (Nt suite ≤ length room)
