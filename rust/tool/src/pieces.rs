@@ -2,8 +2,7 @@
 //! The commands that stream: a frame of any length passes through one small
 //! buffer, and is never held as a whole.
 
-use crate::arguments::Wait;
-use crate::commands::{change, explained, print, read_metadata, read_store, spared};
+use crate::commands::{change_for, explained, print, read_metadata, read_store, spared};
 use crate::failure::Failure;
 use crate::log_file::LogFile;
 use sframe::{read_header, Kid, Metadata, Refusal, Sealing, Store, StoreView, MAX_HEADER};
@@ -14,6 +13,7 @@ use toolkit::disk::Disk;
 use toolkit::fault::Fault;
 use toolkit::output::Output;
 use toolkit::place::Place;
+use toolkit::store_file::Wait;
 use toolkit::words::{one_standard_input, Words};
 
 /// The longest tag.
@@ -62,7 +62,7 @@ impl SealPieces {
                 log,
                 wait: words.wait()?,
             }),
-            Place::Standard => Err(Failure::usage("--out must be a file")),
+            Place::Standard => Err(Fault::usage("--out must be a file").into()),
         }
     }
 
@@ -70,13 +70,13 @@ impl SealPieces {
     /// and the pair in the log, before the first byte of the frame is written. The
     /// frame takes its name once it is whole: an input that is shorter or longer than
     /// was announced leaves nothing but the used counter.
-    pub fn run(&self, disk: &mut impl Disk, out: &mut impl Console) -> Result<(), Failure> {
+    pub fn run<D: Disk>(&self, disk: &mut D, out: &mut impl Console) -> Result<(), Failure> {
         let log = self.log.as_deref().map(LogFile::at).transpose()?;
         let mut files = vec![("the store itself", self.store.as_path())];
         let mut logged = None;
         if let Some(log) = &log {
             if log.is_at(&self.store) {
-                return Err(Failure::usage("--log is the store"));
+                return Err(Fault::usage("--log is the store").into());
             }
             let lock = log.lock(disk, self.wait)?;
             logged = Some((log, lock, log.read(disk)?));
@@ -86,21 +86,20 @@ impl SealPieces {
         let mut input = self.input.open()?;
         let metadata = read_metadata(&self.metadata)?;
 
-        self.output.fill(disk, out, &spared(&files), |disk, file| {
+        let (kid, wait) = (self.kid, self.wait);
+        self.output.fill(disk, out, &spared(&files), |disk, slot| {
             let mut room = [0; MAX_HEADER];
-            let begun = change(disk, &self.store, self.wait, Some(self.kid), |bytes| {
-                Store::over(bytes).seal_begin(self.kid, Metadata(&metadata), length, &mut room)
+            let ready = |disk: &mut D| slot.make_ready(disk);
+            let begun = change_for(disk, &self.store, wait, Some(kid), ready, |bytes| {
+                Store::over(bytes).seal_begin(kid, Metadata(&metadata), length, &mut room)
             });
             let (sealing, header) = begun?;
             let header = &room[..header];
             if let Some((log, _lock, pairs)) = logged {
-                log.append(disk, pairs, self.kid, read_header(header)?.ctr)?;
+                log.append(disk, pairs, kid, read_header(header)?.ctr)?;
             }
-            let mut write = |bytes: &[u8]| {
-                let written = disk.write(file, bytes);
-                written.map_err(|error| Failure::from(Fault::io("--out", error)))
-            };
-            write(header)?;
+            slot.put(disk, header)?;
+            let write = |bytes: &[u8]| Ok(slot.put(disk, bytes)?);
             write_sealed(sealing, &self.input, &mut input, write)
         })
     }
@@ -200,7 +199,7 @@ fn inputs(words: &mut Words) -> Result<(Place, Option<Place>), Failure> {
 fn length_of(given: Option<u64>, size: Option<u64>) -> Result<u64, Failure> {
     given
         .or(size)
-        .ok_or_else(|| Failure::usage("--length is missing: the input is no file"))
+        .ok_or_else(|| Fault::usage("--length is missing: the input is no file").into())
 }
 
 /// The bytes of the header, as far as there are any.
