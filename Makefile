@@ -14,7 +14,7 @@ help:
 	@echo "make libraries  target/staticlib/libsframe_c.a and libmoq_c.a"
 	@echo "make tools      rust/target/release/sframe and moq"
 	@echo "make pins       writes promises.txt, floors.txt and edits.txt anew"
-	@echo "make memcheck   the C example and a part of the comparisons under valgrind"
+	@echo "make memcheck   the C examples and a part of the comparisons under valgrind"
 	@echo "make secrets    tests that no address and no branch depends on a secret"
 	@echo "make guide      compiles and runs the C code of the documents"
 	@echo "make video      takes a video over a bad line, with ffmpeg"

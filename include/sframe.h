@@ -25,12 +25,13 @@
  *
  * Keys are kept in a store, which is bytes that the caller lends to each call; the library has no
  * memory of its own. A terminal adds keys to its store, seals under the ones for sending and opens
- * under the ones for receiving. examples/seal_open.c shows it whole.
+ * under the ones for receiving. examples/seal_open.c shows it whole, and examples/pieces.c a device
+ * whose memory is smaller than a frame.
  *
  * Every call judges its own input: there is no number and no byte string that it has no answer for.
  * The result is the number of the answer: 0 when it is done, else the number of the cause. Where
  * several causes hold, the answer is the first in the order in which the call lists them below. A
- * refusal changes no byte of store or room, and gives 0 for every number asked for.
+ * refusal changes no byte of store, running state or room, and gives 0 for every number asked for.
  *
  * Key numbers (KID), counters (CTR) and suites are 64 bits wide, so no number of a caller's is cut.
  *
@@ -45,12 +46,15 @@
  *     is 0 may be given as a null pointer;
  *   - the pointers for single numbers (kid, ctr, length, count, place, context, index, epoch) are valid,
  *     aligned and never null;
- *   - whatever a call writes to (store, room, single numbers) overlaps nothing else of the call;
+ *   - whatever a call writes to (store, running state, room, single numbers) overlaps nothing else of the call;
  *   - one caller at a time: while a call uses a store, nobody else writes to that store, and nobody
  *     reads it while a call changes it. Opening changes it too, so no two openings share a store;
  *   - between calls the store stays as the last call left it. A store that is copied, or set back to
  *     an earlier state, would seal with counters that were used before, and open frames that were
- *     opened before; so would a store that is made again and given the same keys.
+ *     opened before; so would a store that is made again and given the same keys;
+ *   - a running state goes from each call of its line to the next as the last one left it, and is never copied:
+ *     two pieces that are sealed from one state share a part of the key stream, and whoever has both frames can
+ *     work on the difference.
  */
 #ifndef SFRAME_H
 #define SFRAME_H
@@ -106,7 +110,7 @@ enum sframe_answer {
     SFRAME_STORE_FULL = 5,
     /* The store has no record of the key number. */
     SFRAME_KID_UNKNOWN = 6,
-    /* The record is not for this: sealing takes a sending one, opening and the report a receiving one,
+    /* The record is not for this: sealing takes a sending one, opening, checking and the report a receiving one,
      * and a retired one is not removed again. */
     SFRAME_WRONG_ROLE = 7,
     /* The key has sealed with its last counter, 2^64 - 1: none is left. */
@@ -115,9 +119,11 @@ enum sframe_answer {
     SFRAME_TOO_LONG = 9,
     /* The header is cut short. */
     SFRAME_HEADER_INVALID = 10,
-    /* The bytes behind the header are fewer than a tag has. */
+    /* The bytes behind the header are fewer than a tag has; at the end of a check, the tag is not just as long as the
+     * suite's. */
     SFRAME_FRAME_SHORT = 11,
-    /* The room is shorter than the result, or than offset and result together. */
+    /* The room is shorter than the result, or than offset and result together; in both beginnings also: the running
+     * state has fewer than SFRAME_STATE_SIZE bytes. */
     SFRAME_ROOM_SHORT = 12,
     /* The tag is not the one of this frame, key and metadata. */
     SFRAME_TAG_DIFFERS = 13,
@@ -126,6 +132,10 @@ enum sframe_answer {
     /* The counter lies SFRAME_WINDOW or more below the highest that was opened under the key number:
      * whether it was opened before is not known any more. */
     SFRAME_TOO_OLD = 15,
+    /* The line of calls cannot go on so: the piece goes past the announced length, the end comes before it, or the
+     * running state is none of this kind (its counts are impossible, it is shorter than SFRAME_STATE_SIZE, it belongs
+     * to the other kind of line or to no suite). */
+    SFRAME_BAD_STATE = 16,
     /* No key is added for sending with SFRAME_AES_128_CTR_HMAC_SHA256_32, whose tags have 4 bytes. */
     SFRAME_SENDING_BARRED = 17,
     /* The bits of the step are not 1 to SFRAME_MAX_RATCHET_BITS, or the key number does not fit in 64
@@ -309,6 +319,102 @@ uint32_t sframe_open_near(uint8_t *store, size_t store_len, size_t place, const 
                           const uint8_t *metadata, size_t metadata_len, uint8_t *out, size_t out_len, size_t *length);
 
 /*
+ * Sealing in pieces, for a sender that cannot hold a frame: sframe_seal_begin, then sframe_seal_piece as often as it
+ * takes, then sframe_seal_end. What they write, joined in this order, is the frame that sframe_seal makes of the joined
+ * pieces, however the plaintext is cut. Each call is given the running state that the last one of its line left.
+ *
+ * Many lines may run side by side, under one key too, and in between the store is free for every other call: a line
+ * needs it at its beginning alone, and goes on when its key is removed, since the state has its own copy. So the state
+ * is as secret as the key. The library does not wipe it: the caller does, once the line has ended or is given up.
+ *
+ * The state is plain bytes of the caller's, at any address; they hold no pointer and may be moved. The first
+ * SFRAME_STATE_SIZE of them count, and those behind stay as they were. Any bytes may be given as a state and get an
+ * answer. Some of these answers are of our own choice: SFRAME_ROOM_SHORT for a state below
+ * SFRAME_STATE_SIZE bytes, as the last cause of both beginnings, and SFRAME_BAD_STATE in the other calls for a state
+ * that is so short, belongs to the other kind of line or to no suite. A caller who passes a struct sframe_state along
+ * its line meets none of these.
+ */
+#define SFRAME_STATE_SIZE 168
+
+/* A running state of the right size: pass its bytes and sizeof its bytes. */
+struct sframe_state {
+    uint8_t bytes[SFRAME_STATE_SIZE];
+};
+
+/*
+ * Begins a frame of plaintext_len bytes: writes its header to the start of out and the running state to state, and
+ * takes the key's next counter. The counter is used up even where the line is given up later.
+ *
+ * SFRAME_DONE: *length is the header's length, 1 to SFRAME_MAX_HEADER, and the room beyond it stays as it was; the
+ * record's counter has gone up as in sframe_seal.
+ * Else the first of SFRAME_STORE_NOT_SOUND, SFRAME_KID_UNKNOWN, SFRAME_WRONG_ROLE, SFRAME_COUNTER_SPENT,
+ * SFRAME_TOO_LONG (plaintext_len or metadata_len), SFRAME_ROOM_SHORT that holds: *length is 0, no counter is used up,
+ * and store, state and room stay as they were.
+ */
+SFRAME_NODISCARD
+uint32_t sframe_seal_begin(uint8_t *store, size_t store_len, uint64_t kid, const uint8_t *metadata,
+                           size_t metadata_len, uint64_t plaintext_len, uint8_t *state, size_t state_len, uint8_t *out,
+                           size_t out_len, size_t *length);
+
+/*
+ * Seals the next piece of the plaintext, of any length: its ciphertext goes to the start of out.
+ *
+ * SFRAME_DONE: *length is the piece's length, and the room beyond it stays as it was.
+ * Else the first of SFRAME_BAD_STATE, SFRAME_ROOM_SHORT that holds: *length is 0, state and room stay as they were, and
+ * the line can go on.
+ */
+SFRAME_NODISCARD
+uint32_t sframe_seal_piece(uint8_t *state, size_t state_len, const uint8_t *piece, size_t piece_len, uint8_t *out,
+                           size_t out_len, size_t *length);
+
+/*
+ * Ends the frame, once its pieces have the announced length together: writes the tag to the start of out. The state is
+ * not changed, so the same end gives the same tag again. SFRAME_MAX_TAG bytes are always enough.
+ *
+ * SFRAME_DONE: *length is the tag's length, and the room beyond it stays as it was.
+ * Else the first of SFRAME_BAD_STATE, SFRAME_ROOM_SHORT that holds: *length is 0, the room stays as it was, and the
+ * line can go on.
+ */
+SFRAME_NODISCARD
+uint32_t sframe_seal_end(const uint8_t *state, size_t state_len, uint8_t *out, size_t out_len, size_t *length);
+
+/*
+ * Checking in pieces, for a receiver that cannot hold a frame but wants to know whether it is genuine, say before it
+ * passes it on: sframe_check_begin with the frame's header, sframe_check_piece with the ciphertext piece by piece,
+ * sframe_check_end with the tag. A check shows nothing of the plaintext, does not ask whether the frame was opened
+ * before, and leaves the store alone. Opening takes a frame as a whole.
+ *
+ * sframe_check_begin takes the header at the front of the bytes, in whatever form it was received, and passes over what
+ * follows it.
+ *
+ * SFRAME_DONE, or the first of SFRAME_STORE_NOT_SOUND, SFRAME_HEADER_INVALID, SFRAME_KID_UNKNOWN, SFRAME_WRONG_ROLE,
+ * SFRAME_TOO_LONG (ciphertext_len or metadata_len), SFRAME_ROOM_SHORT (the state alone) that holds: the state stays as
+ * it was.
+ */
+SFRAME_NODISCARD
+uint32_t sframe_check_begin(const uint8_t *store, size_t store_len, const uint8_t *header, size_t header_len,
+                            const uint8_t *metadata, size_t metadata_len, uint64_t ciphertext_len, uint8_t *state,
+                            size_t state_len);
+
+/*
+ * Takes the next piece of the ciphertext, of any length.
+ *
+ * SFRAME_DONE, or SFRAME_BAD_STATE: the state stays as it was, and the line can go on.
+ */
+SFRAME_NODISCARD
+uint32_t sframe_check_piece(uint8_t *state, size_t state_len, const uint8_t *piece, size_t piece_len);
+
+/*
+ * Ends the check: whether this is the tag. The state is not changed.
+ *
+ * SFRAME_DONE: header, ciphertext and tag are a frame under the key and the metadata of the beginning.
+ * Else the first of SFRAME_BAD_STATE, SFRAME_FRAME_SHORT (tag_len is not the length of the suite's tags, be it longer),
+ * SFRAME_TAG_DIFFERS that holds.
+ */
+SFRAME_NODISCARD
+uint32_t sframe_check_end(const uint8_t *state, size_t state_len, const uint8_t *tag, size_t tag_len);
+
+/*
  * How many of the last SFRAME_WINDOW counters were opened under a receiving key, the highest that was
  * opened among them; 0 where none was yet. The store is not changed.
  *
@@ -446,6 +552,8 @@ SFRAME_INLINE const char *sframe_answer_text(uint32_t answer)
         return "a frame with this counter was opened before";
     case SFRAME_TOO_OLD:
         return "the counter lies 64 or more below the highest that was opened";
+    case SFRAME_BAD_STATE:
+        return "the pieces are more or fewer than was announced";
     case SFRAME_SENDING_BARRED:
         return "no key is added for sending with suite 3: its tags have 4 bytes";
     case SFRAME_RATCHET_KID_INVALID:

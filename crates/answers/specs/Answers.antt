@@ -51,6 +51,10 @@ alreadyOpened = 14
 abbrev pub counterTooOld : ℕ
 counterTooOld = 15
 
+-- of a frame in pieces: its running state is not possible, or does not allow this call
+abbrev pub stateMismatch : ℕ
+stateMismatch = 16
+
 abbrev pub sendingBarred : ℕ
 sendingBarred = 17
 
@@ -88,14 +92,19 @@ unfoldable pub first : List Cause → ℕ
 first [] = 0
 first (c ∷ cs) = pick (c .applies) (c .number) (first cs)
 
--- What a call answers, and what the lent bytes hold afterwards. A call that has no room is given the empty one.
+-- What a call answers, and what the lent bytes hold afterwards. A call that has no room, or no running state, is given the empty one.
 pub record Outcome : Type 0 where
   pub number : ℕ
   pub written : ℕ
   pub store : List ℕ
   pub room : List ℕ
+  pub state : List ℕ
 
--- A call with the number n on that store and room: where n is 0 it has the outcome o, else nothing has changed.
+-- A call with the number n on that store, room and running state: where n is 0 it has the outcome o, else nothing has changed.
+abbrev pub settledOn : (n : ℕ) (store room state : List ℕ) (o : Outcome) → Outcome
+settledOn zero store room state o = o
+settledOn (suc n) store room state o = record { number = suc n; written = 0; store = store; room = room; state = state }
+
+-- One without a running state.
 unfoldable pub settled : (n : ℕ) (store room : List ℕ) (o : Outcome) → Outcome
-settled zero store room o = o
-settled (suc n) store room o = record { number = suc n; written = 0; store = store; room = room }
+settled n store room o = settledOn n store room [] o

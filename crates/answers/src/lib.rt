@@ -35,6 +35,8 @@ pub const ALREADY_OPENED: u32 = 14;
 
 pub const COUNTER_TOO_OLD: u32 = 15;
 
+pub const STATE_MISMATCH: u32 = 16;
+
 pub const SENDING_BARRED: u32 = 17;
 
 pub const RATCHET_KID_INVALID: u32 = 20;

@@ -1,3 +1,3 @@
-mod Streams
+pub mod Streams
 pub mod Laws
 mod Tags

@@ -37,7 +37,7 @@ pub part-length : (l : List ℕ) (i e : ℕ) → i ≤ e → e ≤ length l → 
 part-length l i e h k = length-take-le (e - i) (drop i l) (simp length-drop (omega arith))
 
 -- A key stream goes on behind another.
-stream-add : (key nonce : List ℕ) (count j n : ℕ) → keyStream key nonce count (j + n) ≡ keyStream key nonce count j ++ keyStream key nonce (count + j) n
+pub stream-add : (key nonce : List ℕ) (count j n : ℕ) → keyStream key nonce count (j + n) ≡ keyStream key nonce count j ++ keyStream key nonce (count + j) n
 unfolding keyStream
 stream-add key nonce count j zero = rw (add-zero j, append-nil (keyStream key nonce count j))
 stream-add key nonce count j (suc n) =
@@ -45,7 +45,7 @@ stream-add key nonce count j (suc n) =
     rw (add-suc j n, stream-add key nonce count j n, e) (append-assoc (keyStream key nonce count j) (keyStream key nonce (count + j) n) _)
 
 -- Blocks of a batch that are encrypted counter blocks are key stream.
-stream-part : (key nonce : List ℕ) (f : ℕ → List ℕ) (s : List ℕ) (count k : ℕ) → Blocks key f s
+pub stream-part : (key nonce : List ℕ) (f : ℕ → List ℕ) (s : List ℕ) (count k : ℕ) → Blocks key f s
     → (n : ℕ) → k + n ≤ 16 → ((m : ℕ) → m < n → f (k + m) ≡ counterBlock nonce (count + m)) → take (16 * n) (drop (16 * k) s) ≡ keyStream key nonce count n
 unfolding keyStream
 stream-part key nonce f s count k b zero h g = refl
@@ -75,7 +75,7 @@ front-rest key nonce s b =
     numbered m = let e : 2 + m ≡ suc (1 + m) = omega arith in rw e
 
 -- XOR takes no more of a key stream than it needs.
-xors-enough : (l k r : List ℕ) → length l ≤ length k → xors l (k ++ r) ≡ xors l k
+pub xors-enough : (l k r : List ℕ) → length l ≤ length k → xors l (k ++ r) ≡ xors l k
 unfolding xors
 xors-enough [] k r h = refl
 xors-enough (x ∷ l) [] r h = absurd (omega arith)

@@ -3,9 +3,11 @@ mod with_sha256;
 mod with_sha512;
 
 pub use with_sha256::HmacSha256;
+pub use with_sha256::block_key;
 pub use with_sha256::hkdf_expand_sha256;
 pub use with_sha256::hkdf_extract_sha256;
 pub use with_sha256::hmac_sha256;
+pub use with_sha256::masked_block;
 pub use with_sha512::HmacSha512;
 pub use with_sha512::hkdf_expand_sha512;
 pub use with_sha512::hkdf_extract_sha512;
@@ -24,6 +26,6 @@ fn least(a: usize, b: usize) -> usize
 pub const LARGEST: usize = 0x8000_0000;
 
 // The bytes that the key is masked with, for the inner and for the outer hash.
-const IPAD: u8 = 0x36;
+pub const IPAD: u8 = 0x36;
 
-const OPAD: u8 = 0x5c;
+pub const OPAD: u8 = 0x5c;

@@ -27,7 +27,7 @@ pub struct HmacSha256 {
 }
 
 // The key as one block.
-fn block_key(key: &[u8]) -> [u8; 64]
+pub fn block_key(key: &[u8]) -> [u8; 64]
     requires { ⌜ length (now key) ≤ largest ⌝ }
     ensures { λ r. ⌜ (r ≡ extended sha256 (now (key .entry))) × (length r ≡ 64) ⌝ }
 {
@@ -42,7 +42,7 @@ fn block_key(key: &[u8]) -> [u8; 64]
 }
 
 // The block XOR a pad.
-fn masked_block(block: &[u8], pad: u8) -> [u8; 64]
+pub fn masked_block(block: &[u8], pad: u8) -> [u8; 64]
     requires { ⌜ length (now block) ≡ 64 ⌝ }
     ensures { λ r. ⌜ (r ≡ xors (now (block .entry)) (replicate 64 pad)) × (length r ≡ 64) ⌝ }
 {

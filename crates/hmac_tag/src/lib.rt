@@ -21,7 +21,7 @@ const LENGTHS_SIZE: usize = 3 * LENGTH_SIZE;
 const NH: usize = 32;
 
 // Three lengths, each in 8 bytes.
-fn lengths(aad: u64, ciphertext: u64, tag: u64) -> [u8; LENGTHS_SIZE]
+pub fn lengths(aad: u64, ciphertext: u64, tag: u64) -> [u8; LENGTHS_SIZE]
     ensures { λ r. ⌜ (r ≡ bytes lengthSize aad ++ (bytes lengthSize ciphertext ++ bytes lengthSize tag)) × (length r ≡ 3 * lengthSize) ⌝ }
 {
     let mut l = [0u8; LENGTHS_SIZE];

@@ -68,12 +68,12 @@ module _ (suite : Suite) (id : TrackId) (salt key : List ℕ) (group object : �
         ),
       )
 
-      opened : (p : List ℕ) → Nt suite ≤ length bytes → given ≡ plain p → opening s id group object properties bytes room ≡ record { number = 0; written = length p; store = s; room = p ++ drop (length p) room }
+      opened : (p : List ℕ) → Nt suite ≤ length bytes → given ≡ plain p → opening s id group object properties bytes room ≡ record { number = 0; written = length p; store = s; room = p ++ drop (length p) room; state = [] }
       unfolding openAt decryptedUnder given
       opened p h e =
           open-here
           ∙ settled-done _ s room _ (none-applies _ (causes-pass p h e))
-          ∙ ap (λ (d : Decrypted). record { number = 0; written = length (plainOf d); store = s; room = plainOf d ++ drop (length (plainOf d)) room }) e
+          ∙ ap (λ (d : Decrypted). record { number = 0; written = length (plainOf d); store = s; room = plainOf d ++ drop (length (plainOf d)) room; state = [] }) e
 
       passed : opening s id group object properties bytes room .number ≡ 0 → isDiffers given ≡ false
       unfolding openAt openCauses decryptedUnder given
@@ -103,7 +103,7 @@ module _ (suite : Suite) (id : TrackId) (salt key : List ℕ) (group object : �
       found = holds-get s (g .held)
 
       outcome-is : (e : Encryption suite id salt key group object properties bytes)
-          → opening s id group object properties bytes room ≡ record { number = 0; written = length (e .plaintext); store = s; room = e .plaintext ++ drop (length (e .plaintext)) room }
+          → opening s id group object properties bytes room ≡ record { number = 0; written = length (e .plaintext); store = s; room = e .plaintext ++ drop (length (e .plaintext)) room; state = [] }
       outcome-is e =
           let l = ap length (e .is-object) ∙ secured-length suite key salt (id .name) (id .keyId) group object properties (e .plaintext) in
           opened s bytes room (g .held .is-sound) found (g .object-below) (g .plaintext-most) (g .properties-most) (g .room-enough) (e .plaintext) (omega arith)

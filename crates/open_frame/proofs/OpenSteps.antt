@@ -233,9 +233,9 @@ module _ (held : KeyRecord) (m f room : List ℕ) (kid : Kid) (ctr : Ctr) (n : �
 
 -- number, length and room do not hang on the store
 any-store : (k : ℕ) (s t room : List ℕ) (n : ℕ) (x y z : List ℕ)
-    → (settled k s room (record { number = 0; written = n; store = y; room = x }) .number ≡ settled k t room (record { number = 0; written = n; store = z; room = x }) .number)
-    × (settled k s room (record { number = 0; written = n; store = y; room = x }) .written ≡ settled k t room (record { number = 0; written = n; store = z; room = x }) .written)
-    × (settled k s room (record { number = 0; written = n; store = y; room = x }) .room ≡ settled k t room (record { number = 0; written = n; store = z; room = x }) .room)
+    → (settled k s room (record { number = 0; written = n; store = y; room = x; state = [] }) .number ≡ settled k t room (record { number = 0; written = n; store = z; room = x; state = [] }) .number)
+    × (settled k s room (record { number = 0; written = n; store = y; room = x; state = [] }) .written ≡ settled k t room (record { number = 0; written = n; store = z; room = x; state = [] }) .written)
+    × (settled k s room (record { number = 0; written = n; store = y; room = x; state = [] }) .room ≡ settled k t room (record { number = 0; written = n; store = z; room = x; state = [] }) .room)
 unfolding settled
 any-store zero s t room n x y z = (refl, refl, refl)
 any-store (suc k) s t room n x y z = (refl, refl, refl)

@@ -1,7 +1,7 @@
 -- What opening does to the table. Assumes nothing.
 use mathlib.Core.Path.{_≡_, refl, sym, _∙_, ap, ap₂}
 use mathlib.Core.Bool.{Bool, true, false, false≢true}
-use mathlib.Core.List.{List, _++_}
+use mathlib.Core.List.{List, [], _++_}
 use Prim.Native.Nat.{ℕ, _^_, _<_}
 use native.Mathlib.Omega.{arith}
 use lib.ListN.{length, drop}
@@ -68,7 +68,7 @@ module _ (cipher : Cipher) (s : List ℕ) (rs : List KeyRecord) (t : Stored s rs
     outcome-of : KeyRecord → Outcome
     outcome-of held =
         let p = plainOf (decrypted cipher (readHeader bytes) held metadata bytes) in
-        record { number = 0; written = length p; store = encodeAll (put (readKid (readHeader bytes)) (noted (readCtr (readHeader bytes)) held) rs); room = p ++ drop (length p) room }
+        record { number = 0; written = length p; store = encodeAll (put (readKid (readHeader bytes)) (noted (readCtr (readHeader bytes)) held) rs); room = p ++ drop (length p) room; state = [] }
 
     opened-by : (o : Outcome) (held : KeyRecord) → get (readKid (readHeader bytes)) rs ≡ held → Settled (causesOfOpen cipher true (readHeader bytes) held metadata bytes room) s room (outcome-of held) o
         → OpenStep s rs (readKid (readHeader bytes)) (readCtr (readHeader bytes)) o

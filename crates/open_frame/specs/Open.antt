@@ -63,7 +63,7 @@ module _ (cipher : Cipher) where
   openAt valid reading held rs s metadata frame room =
       let p = plainOf (decrypted reading held metadata frame) in
       settled (first (causesOfOpen valid reading held metadata frame room)) s room
-      (record { number = 0; written = length p; store = encodeAll (put (readKid reading) (noted (readCtr reading) held) rs); room = p ++ drop (length p) room })
+      (record { number = 0; written = length p; store = encodeAll (put (readKid reading) (noted (readCtr reading) held) rs); room = p ++ drop (length p) room; state = [] })
 
   unfoldable pub opening : (s metadata frame room : List ℕ) → Outcome
   opening s metadata frame room =

@@ -197,9 +197,9 @@ module _ (held : TrackRecord) (id : TrackId) (group object : ℕ) (properties se
 
 -- number, length and room do not hang on the store's bytes
 any-store : (k : ℕ) (s t room : List ℕ) (n : ℕ) (x : List ℕ)
-    → (settled k s room (record { number = 0; written = n; store = s; room = x }) .number ≡ settled k t room (record { number = 0; written = n; store = t; room = x }) .number)
-    × (settled k s room (record { number = 0; written = n; store = s; room = x }) .written ≡ settled k t room (record { number = 0; written = n; store = t; room = x }) .written)
-    × (settled k s room (record { number = 0; written = n; store = s; room = x }) .room ≡ settled k t room (record { number = 0; written = n; store = t; room = x }) .room)
+    → (settled k s room (record { number = 0; written = n; store = s; room = x; state = [] }) .number ≡ settled k t room (record { number = 0; written = n; store = t; room = x; state = [] }) .number)
+    × (settled k s room (record { number = 0; written = n; store = s; room = x; state = [] }) .written ≡ settled k t room (record { number = 0; written = n; store = t; room = x; state = [] }) .written)
+    × (settled k s room (record { number = 0; written = n; store = s; room = x; state = [] }) .room ≡ settled k t room (record { number = 0; written = n; store = t; room = x; state = [] }) .room)
 unfolding settled
 any-store zero s t room n x = (refl, refl, refl)
 any-store (suc k) s t room n x = (refl, refl, refl)

@@ -49,7 +49,7 @@ openAt valid held s id group object properties sealed room =
     let given = decryptedUnder held id group object properties sealed in
     let p = plainOf given in
     settled (first (openCauses valid held object (length properties) (length sealed) (length room) given)) s room
-    (record { number = 0; written = length p; store = s; room = p ++ drop (length p) room })
+    (record { number = 0; written = length p; store = s; room = p ++ drop (length p) room; state = [] })
 
 unfoldable pub opening : (s : List ℕ) (id : TrackId) (group object : ℕ) (properties sealed room : List ℕ) → Outcome
 opening s id group object properties sealed room = openAt (sound s) (get id (records s)) s id group object properties sealed room

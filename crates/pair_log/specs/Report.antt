@@ -70,4 +70,4 @@ report log = pick (ltb maxLog (length log)) tooLong (pick (eqb (length log % rec
 
 -- The report at the start of a room: refused where the room is shorter. There is no store: it is the empty one.
 unfoldable pub written : (text room : List ℕ) → Outcome
-written text room = settled (first ((roomShort if ltb (length room) (length text)) ∷ [])) [] room (record { number = done; written = length text; store = []; room = text ++ drop (length text) room })
+written text room = settled (first ((roomShort if ltb (length room) (length text)) ∷ [])) [] room (record { number = done; written = length text; store = []; room = text ++ drop (length text) room; state = [] })

@@ -132,7 +132,7 @@ unfolding walk walkWith walkCauses first settled
 walk-unknown suite base steps room e = ((rw e, rw e), rw e)
 
 abbrev walk-success : (key room : List ℕ) → Outcome
-walk-success key room = record { number = 0; written = length key; store = []; room = key ++ drop (length key) room }
+walk-success key room = record { number = 0; written = length key; store = []; room = key ++ drop (length key) room; state = [] }
 
 -- s is the suite, n the length of the key after the steps and k the number that the walk was judged with
 module _ (suite : ℕ) (base : List ℕ) (steps : ℕ) (room : List ℕ) (s : Suite) (e : suiteOf suite ≡ Known s) (n k : ℕ) (w : n ≡ walkedSize s (length base) steps)

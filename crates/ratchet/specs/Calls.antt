@@ -41,7 +41,7 @@ walkCauses known base steps key room =
 unfoldable pub walkWith : (suite : Found) (base : List ℕ) (steps : ℕ) (room : List ℕ) → Outcome
 walkWith suite base steps room =
     let key = keyAfter suite base steps in
-    settled (first (walkCauses (isKnown suite) (length base) steps (length key) (length room))) [] room (record { number = 0; written = length key; store = []; room = key ++ drop (length key) room })
+    settled (first (walkCauses (isKnown suite) (length base) steps (length key) (length room))) [] room (record { number = 0; written = length key; store = []; room = key ++ drop (length key) room; state = [] })
 
 -- The key stands at the start of the room. There is no store: it is the empty one.
 unfoldable pub walk : (suite : ℕ) (base : List ℕ) (steps : ℕ) (room : List ℕ) → Outcome

@@ -1,7 +1,7 @@
 -- The steps of sealing a frame, over plain variables. Assumes nothing.
 use mathlib.Core.Path.{_≡_, refl, sym, _∙_, ap, ap₂}
 use mathlib.Core.Bool.{Bool, true, false, not}
-use mathlib.Core.List.{List, _++_, append-assoc}
+use mathlib.Core.List.{List, [], _++_, append-assoc}
 use Prim.Native.Nat.{ℕ, zero, suc, _+_, _-_, _<_, _≤_, min}
 use native.Mathlib.Nat.{sub-zero}
 use native.Mathlib.Omega.{arith}
@@ -194,7 +194,7 @@ module _ (held : KeyRecord) (kid : ℕ) (metadata plaintext room : List ℕ) (c 
 success : KeyRecord → List KeyRecord → ℕ → List ℕ → List ℕ → List ℕ → Outcome
 success held rs kid metadata plaintext room =
     let f = nextFrame sframe held kid metadata plaintext in
-    record { number = 0; written = length f; store = encodeAll (put kid (advanced held) rs); room = pasted room 0 f }
+    record { number = 0; written = length f; store = encodeAll (put kid (advanced held) rs); room = pasted room 0 f; state = [] }
 
 module _ (s : List ℕ) (kid : ℕ) (metadata plaintext room : List ℕ) where
   pub seal-unsound : (r : Bool) → r ≡ sound s → not r ≡ true → Leaves (seal sframe s kid metadata plaintext 0 room) storeInvalid 0 s room

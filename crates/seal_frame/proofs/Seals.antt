@@ -47,15 +47,15 @@ pub data SealStep (cipher : Cipher) (s : List ℕ) (rs : List KeyRecord) (kid : 
   done : (r : SendingKey) → Sealed cipher rs kid metadata plaintext offset o r → SealStep cipher s rs kid metadata plaintext offset o
   refused : (o .number ≡ 0 → ⊥) → o .store ≡ s → SealStep cipher s rs kid metadata plaintext offset o
 
-holds-kid : (kid : ℕ) (r : SendingKey) → holds kid (sending r) ≡ true → r .kid ≡ kid
+pub holds-kid : (kid : ℕ) (r : SendingKey) → holds kid (sending r) ≡ true → r .kid ≡ kid
 unfolding holds
 holds-kid kid r h = eqb-true (r .kid) kid h
 
-next-holds : (kid : ℕ) (r : SendingKey) → holds kid (sending r) ≡ true → holds kid (next r) ≡ true
+pub next-holds : (kid : ℕ) (r : SendingKey) → holds kid (sending r) ≡ true → holds kid (next r) ≡ true
 unfolding holds
 next-holds kid r h = h
 
-next-fit : (cipher : Cipher) (r : SendingKey) → Fit (sending r) → r .counter < ceiling → Fit (next r)
+pub next-fit : (cipher : Cipher) (r : SendingKey) → Fit (sending r) → r .counter < ceiling → Fit (next r)
 next-fit cipher r f h = (record { known = f .0 .known; kid-below = f .0 .kid-below; counter-most = omega arith }, f .1)
 
 module _ (cipher : Cipher) (laws : Laws cipher) (s : List ℕ) (rs : List KeyRecord) (t : Stored s rs) where
@@ -68,7 +68,7 @@ module _ (cipher : Cipher) (laws : Laws cipher) (s : List ℕ) (rs : List KeyRec
     outcome-of : KeyRecord → Outcome
     outcome-of held =
         let f = nextFrame cipher held kid metadata plaintext in
-        record { number = 0; written = length f; store = encodeAll (put kid (advanced held) rs); room = pasted room offset f }
+        record { number = 0; written = length f; store = encodeAll (put kid (advanced held) rs); room = pasted room offset f; state = [] }
 
     sealed-by : (o : Outcome) (held : KeyRecord) → get kid rs ≡ held → Settled (causesOfSeal true held kid (length metadata) (length plaintext) offset (length room)) s room (outcome-of held) o
         → SealStep cipher s rs kid metadata plaintext offset o

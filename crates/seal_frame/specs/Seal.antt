@@ -49,7 +49,7 @@ module _ (cipher : Cipher) where
   sealAt valid held rs s kid metadata plaintext offset room =
       let f = nextFrame held kid metadata plaintext in
       settled (first (causesOfSeal valid held kid (length metadata) (length plaintext) offset (length room))) s room
-      (record { number = 0; written = length f; store = encodeAll (put kid (advanced held) rs); room = pasted room offset f })
+      (record { number = 0; written = length f; store = encodeAll (put kid (advanced held) rs); room = pasted room offset f; state = [] })
 
   unfoldable pub seal : (s : List ℕ) (kid : ℕ) (metadata plaintext : List ℕ) (offset : ℕ) (room : List ℕ) → Outcome
   seal s kid metadata plaintext offset room = sealAt (sound s) (get kid (records s)) (records s) s kid metadata plaintext offset room

@@ -32,7 +32,7 @@ ghost use Rattle.key_record.specs.inner.Rows.{Row, Numbered, counterLeft};
 ghost use Rattle.seal_frame.specs.Seal.{nextLength, causesOfSeal, nextFrame, seal};
 
 // Writes the header of a sending record's next frame to the front of head.
-fn write_next(row: &[u8], kid: Kid, head: &mut [u8]) -> usize
+pub fn write_next(row: &[u8], kid: Kid, head: &mut [u8]) -> usize
     requires { ⌜ (Row (now row)) × (isSending (decode (now row)) ≡ true) × (maxHeader ≤ length (now head)) × (counterLeft (decode (now row)) ≡ true) ⌝ }
     ensures { λ r. ⌜ (r ≡ length (header (kid .0) (counterOf (decode (now (row .entry)))))) × (r ≤ maxHeader) ⌝ }
     ensures { λ r. ⌜ now (head .exit) ≡ header (kid .0) (counterOf (decode (now (row .entry)))) ++ drop r (now (head .entry)) ⌝ }

@@ -1,7 +1,7 @@
 -- The steps of sealing an object, over plain variables. Assumes nothing.
 use mathlib.Core.Path.{_≡_, refl, sym, _∙_, ap, ap₂}
 use mathlib.Core.Bool.{Bool, true, false, not}
-use mathlib.Core.List.{List, _++_}
+use mathlib.Core.List.{List, [], _++_}
 use Prim.Native.Nat.{ℕ, _+_, _-_, _<_, _≤_}
 use native.Mathlib.Nat.{sub-zero}
 use native.Mathlib.Omega.{arith}
@@ -145,7 +145,7 @@ leaves o p e = ((sym (ap (λ (x : Outcome). x .number) e), sym (ap (λ (x : Outc
 success : TrackRecord → List TrackRecord → TrackId → ℕ → ℕ → List ℕ → List ℕ → List ℕ → Outcome
 success held rs id group object properties plaintext room =
     let f = objectUnder held id group object properties plaintext in
-    record { number = 0; written = length f; store = encodeAll (put id (advanced (counter group object) held) rs); room = f ++ drop (length f) room }
+    record { number = 0; written = length f; store = encodeAll (put id (advanced (counter group object) held) rs); room = f ++ drop (length f) room; state = [] }
 
 module _ (s : List ℕ) (id : TrackId) (group object : ℕ) (properties plaintext room : List ℕ) where
   pub seal-unsound : (r : Bool) → r ≡ sound s → not r ≡ true → Leaves (seal s id group object properties plaintext room) storeInvalid 0 s room

@@ -1,7 +1,7 @@
 -- What sealing does to the table and to the room. Assumes nothing.
 use mathlib.Core.Path.{_≡_, refl, sym, _∙_, ap, ap₂}
 use mathlib.Core.Bool.{Bool, true, false, false≢true}
-use mathlib.Core.List.{List, _++_}
+use mathlib.Core.List.{List, [], _++_}
 use Prim.Native.Nat.{ℕ, _+_, _^_, _<_, _≤_}
 use lib.ListN.{length, take, drop}
 use lib.Seq.{take-at}
@@ -47,7 +47,7 @@ module _ (s : List ℕ) (rs : List TrackRecord) (t : Stored s rs) (id : TrackId)
   outcome-of : TrackRecord → Outcome
   outcome-of held =
       let f = objectUnder held id group object properties plaintext in
-      record { number = 0; written = length f; store = encodeAll (put id (advanced (counter group object) held) rs); room = f ++ drop (length f) room }
+      record { number = 0; written = length f; store = encodeAll (put id (advanced (counter group object) held) rs); room = f ++ drop (length f) room; state = [] }
 
   sealed-by : group < 2 ^ 64 → (o : Outcome) (held : TrackRecord) → get id rs ≡ held → Settled (sealCauses true held group object (length properties) (length plaintext) (length room)) s room (outcome-of held) o
       → SealStep s rs id group object properties plaintext o

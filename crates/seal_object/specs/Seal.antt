@@ -37,7 +37,7 @@ unfoldable pub sealAt : (valid : Bool) (held : TrackRecord) (rs : List TrackReco
 sealAt valid held rs s id group object properties plaintext room =
     let f = objectUnder held id group object properties plaintext in
     settled (first (sealCauses valid held group object (length properties) (length plaintext) (length room))) s room
-    (record { number = 0; written = length f; store = encodeAll (put id (advanced (counter group object) held) rs); room = f ++ drop (length f) room })
+    (record { number = 0; written = length f; store = encodeAll (put id (advanced (counter group object) held) rs); room = f ++ drop (length f) room; state = [] })
 
 unfoldable pub seal : (s : List ℕ) (id : TrackId) (group object : ℕ) (properties plaintext room : List ℕ) → Outcome
 seal s id group object properties plaintext room = sealAt (sound s) (get id (records s)) (records s) s id group object properties plaintext room

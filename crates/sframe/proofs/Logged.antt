@@ -18,7 +18,7 @@ use Rattle.pair_log.proofs.Reports.{pairs-written, report-none}
 use Rattle.sframe.specs.History.{Sealing, Event, added, sealed, opened, other}
 use Rattle.sframe.specs.Promises.{kidOf, ctrOf}
 use Rattle.sframe.specs.Logs.{sealings, TakenFirst, Taken, logOf}
-use Rattle.sframe.proofs.Ledger.{Each, fact-kid, fact-ctr, Below, Proper}
+use Rattle.sframe.proofs.Facts.{Each, Lines, fact-kid, fact-ctr, Below, Proper}
 
 -- ---- sealings that are apart
 
@@ -46,15 +46,15 @@ others-below x (opened y ∷ log) b = others-below x log b
 others-below x (other ∷ log) b = others-below x log b
 
 -- all sealings of a list of calls are apart
-pub sealings-apart : (cipher : Cipher) (log : List Event) → Each (Proper cipher) log → Apart (sealings log)
+pub sealings-apart : (cipher : Cipher) (lines : Lines cipher) (log : List Event) → Each (Proper cipher lines) log → Apart (sealings log)
 unfolding sealings
-sealings-apart cipher [] p = tt
-sealings-apart cipher (added a ∷ log) p = sealings-apart cipher log p
-sealings-apart cipher (sealed x ∷ log) p =
+sealings-apart cipher lines [] p = tt
+sealings-apart cipher lines (added a ∷ log) p = sealings-apart cipher lines log p
+sealings-apart cipher lines (sealed x ∷ log) p =
     let f = p .0 .0 in
-    ((rw (fact-kid cipher x log f) (f .kid-below), rw (fact-ctr cipher x log f) (omega (arith, f .ctr-below))), others-below x log (p .0 .1), sealings-apart cipher log (p .1))
-sealings-apart cipher (opened x ∷ log) p = sealings-apart cipher log p
-sealings-apart cipher (other ∷ log) p = sealings-apart cipher log p
+    ((rw (fact-kid cipher lines x log f) (f .kid-below), rw (fact-ctr cipher lines x log f) (omega (arith, f .ctr-below))), others-below x log (p .0 .1), sealings-apart cipher lines log (p .1))
+sealings-apart cipher lines (opened x ∷ log) p = sealings-apart cipher lines log p
+sealings-apart cipher lines (other ∷ log) p = sealings-apart cipher lines log p
 
 -- ---- and so are those that are taken from them
 

@@ -20,9 +20,12 @@ use Rattle.add_key.specs.Add.{barred, add}
 use Rattle.add_key.proofs.Adds.{AddStep, add-step}
 use Rattle.seal_frame.specs.Seal.{seal}
 use Rattle.open_frame.specs.Open.{opening}
-use Rattle.sframe.specs.History.{Call, Add, Remove, Seal, Open, Report, Find, ChangeEpoch, Typed, AllTyped, Adding, Sealing, Event, added, sealed, opened, other, event, History, outcome, step, run, start}
+use Rattle.begin_seal.specs.Begin.{sealBegin}
+use Rattle.sframe.specs.History.{Call, Add, Remove, Seal, Open, Report, Find, ChangeEpoch, Begin, Piece, End, CheckBegin, CheckPiece, CheckEnd, Typed, AllTyped, Adding, Sealing, Event, added, sealed, opened, other, event, onLine, onward, History, outcome, step, run, start}
 use Rattle.sframe.specs.Promises.{isSender, senders, NeverAgain, NoneBarred}
+use Rattle.sframe.proofs.Facts.{Lines}
 use Rattle.sframe.proofs.Ledger.{Inv, step-keeps}
+use Rattle.sframe.proofs.Lines.{senders-line}
 
 -- an Add that answered 0, and the events before it: its KID has had no Add for sending, and its suite is not barred
 abbrev New : (role : Role) (kid suite : ℕ) → List Event → Type 0
@@ -36,8 +39,24 @@ Fresh (sealed x ∷ log) = Fresh log
 Fresh (opened x ∷ log) = Fresh log
 Fresh (other ∷ log) = Fresh log
 
-module _ (cipher : Cipher) (laws : Laws cipher) where
-  fresh-add : (h : History) (role : Role) (kid suite : ℕ) (base : List ℕ) → kid < 2 ^ 64 → Octets base → Inv cipher h → add cipher (h .store) role kid suite base .number ≡ 0
+-- a call of a line adds nothing
+fresh-line : (n : ℕ) (f : Sealing → Sealing) (log : List Event) → Fresh log → Fresh (onLine n f log)
+unfolding onLine
+fresh-line n f [] p = tt
+fresh-line n f (e ∷ log) p = by e (two (eqb (length log) n)) p (fresh-line n f log)
+  where
+    by : (e : Event) → Two (eqb (length log) n) → Fresh (e ∷ log) → (Fresh log → Fresh (onLine n f log)) → Fresh (onLine n f (e ∷ log))
+    by (added a) (yes′ t) p r = rw t p
+    by (sealed x) (yes′ t) p r = rw t p
+    by (opened x) (yes′ t) p r = rw t p
+    by other (yes′ t) p r = rw t p
+    by (added a) (no′ t) p r = rw t ((senders-line (a .kid) n f log ∙ p .0 .0, p .0 .1), r (p .1))
+    by (sealed x) (no′ t) p r = rw t (r p)
+    by (opened x) (no′ t) p r = rw t (r p)
+    by other (no′ t) p r = rw t (r p)
+
+module _ (cipher : Cipher) (laws : Laws cipher) (lines : Lines cipher) where
+  fresh-add : (h : History) (role : Role) (kid suite : ℕ) (base : List ℕ) → kid < 2 ^ 64 → Octets base → Inv cipher lines h → add cipher (h .store) role kid suite base .number ≡ 0
       → New role kid suite (h .log)
   fresh-add h role kid suite base a b i e = by (add cipher (h .store) role kid suite base) e (add-step cipher laws (h .store) (i .table) (i .is-stored) role kid suite base a b)
     where
@@ -45,8 +64,8 @@ module _ (cipher : Cipher) (laws : Laws cipher) where
       by o z (AddStep.refused d s) = absurd (d z)
       by o z (AddStep.done n k allowed g c st) = (rw g at (i .account .ledger kid), allowed)
 
-  fresh-step : (c : Call) (h : History) → Typed c → Inv cipher h → Fresh (h .log) → Fresh (step cipher c h .log)
-  unfolding step outcome event
+  fresh-step : (c : Call) (h : History) → Typed c → Inv cipher lines h → Fresh (h .log) → Fresh (step cipher c h .log)
+  unfolding step outcome event onward
   fresh-step (Add role kid suite base) h q i p = by (two (eqb (add cipher (h .store) role kid suite base .number) 0))
     where
       by : Two (eqb (add cipher (h .store) role kid suite base .number) 0) → Fresh (step cipher (Add role kid suite base) h .log)
@@ -66,11 +85,21 @@ module _ (cipher : Cipher) (laws : Laws cipher) where
   fresh-step (Report kid) h q i p = p
   fresh-step (Find kid) h q i p = p
   fresh-step (ChangeEpoch width bits) h q i p = p
+  fresh-step (Begin kid metadata announced state room) h q i p = by (two (eqb (sealBegin cipher (h .store) kid metadata announced state room .number) 0))
+    where
+      by : Two (eqb (sealBegin cipher (h .store) kid metadata announced state room .number) 0) → Fresh (step cipher (Begin kid metadata announced state room) h .log)
+      by (yes′ t) = rw t p
+      by (no′ t) = rw t p
+  fresh-step (Piece line piece room) h q i p = fresh-line line _ (h .log) p
+  fresh-step (End line room) h q i p = fresh-line line _ (h .log) p
+  fresh-step (CheckBegin metadata header announced state) h q i p = p
+  fresh-step (CheckPiece state piece) h q i p = p
+  fresh-step (CheckEnd state tag) h q i p = p
 
-  pub run-fresh : (cs : List Call) (h : History) → AllTyped cs → Inv cipher h → Fresh (h .log) → Fresh (run cipher cs h .log)
+  pub run-fresh : (cs : List Call) (h : History) → AllTyped cs → Inv cipher lines h → Fresh (h .log) → Fresh (run cipher cs h .log)
   unfolding run
   run-fresh [] h q i p = p
-  run-fresh (c ∷ cs) h q i p = run-fresh cs (step cipher c h) (q .1) (step-keeps cipher laws c h (q .0) i) (fresh-step c h (q .0) i p)
+  run-fresh (c ∷ cs) h q i p = run-fresh cs (step cipher c h) (q .1) (step-keeps cipher laws lines c h (q .0) i) (fresh-step c h (q .0) i p)
 
 -- ---- from there to the claim
 

@@ -5,7 +5,7 @@ use mathlib.Core.Bool.{true, false, false≢true}
 use mathlib.Core.List.{List, [], _∷_, _++_}
 use Prim.Native.Nat.{ℕ}
 use lib.Dec.{eqb}
-use lib.ListN.{replicate}
+use lib.ListN.{length, replicate}
 use borrow.Author.Tests.{eq-eqb, ne-eqb, eqb-true, eqb-false}
 use Rattle.octets.specs.Octets.{pick}
 use Rattle.header.specs.Answers.{readKid, readCtr}
@@ -26,11 +26,14 @@ use Rattle.add_key.specs.Add.{add, added as addedRecord}
 use Rattle.add_key.proofs.Adds.{AddStep, add-step}
 use Rattle.seal_frame.specs.Seal.{seal}
 use Rattle.seal_frame.proofs.Seals.{next, SealStep, seal-step}
+use Rattle.begin_seal.specs.Begin.{sealBegin}
+use Rattle.begin_seal.proofs.Begins.{BeginStep, begin-step}
+use Rattle.begin_check.proofs.Checks.{check-store}
 use Rattle.open_frame.specs.Open.{opening}
 use Rattle.open_frame.proofs.Opened.{OpenStep, open-step}
 use Rattle.change_epoch.specs.Epoch.{ofEpoch, withoutEpoch, changeEpoch}
 use Rattle.change_epoch.proofs.Epochs.{Swept, EpochStep, epoch-step}
-use Rattle.sframe.specs.History.{Call, Add, Remove, Seal, Open, Report, Find, ChangeEpoch, Typed, AllTyped, Opening, Event, added, sealed, opened, other, event, History, outcome, step, run, start}
+use Rattle.sframe.specs.History.{Call, Add, Remove, Seal, Open, Report, Find, ChangeEpoch, Begin, Piece, End, CheckBegin, CheckPiece, CheckEnd, Typed, AllTyped, Sealing, Opening, Event, added, sealed, opened, other, event, onLine, onward, History, outcome, step, run, start}
 use Rattle.sframe.specs.Promises.{AddedIn, OpenedOnce}
 use Rattle.sframe.proofs.Ledger.{happened, passed-by, find-store, report-store}
 
@@ -125,9 +128,51 @@ guarded-swept E bits rs rs′ c log g k = by (two (ofEpoch E bits (get k rs)))
     by (yes′ t) = rw (c .found k, t) (none-guarded (Guards empty) (λ c. tt) (since k log))
     by (no′ t) = rw (c .found k, t) (g k)
 
+-- ---- lines
+
+since-line : (kid n : ℕ) (f : Sealing → Sealing) (log : List Event) → since kid (onLine n f log) ≡ since kid log
+unfolding since onLine
+since-line kid n f [] = refl
+since-line kid n f (e ∷ log) = by e (two (eqb (length log) n)) (since-line kid n f log)
+  where
+    by : (e : Event) → Two (eqb (length log) n) → since kid (onLine n f log) ≡ since kid log → since kid (onLine n f (e ∷ log)) ≡ since kid (e ∷ log)
+    by (added a) (yes′ t) r = rw t
+    by (sealed x) (yes′ t) r = rw t
+    by (opened x) (yes′ t) r = rw t
+    by other (yes′ t) r = rw t
+    by (added a) (no′ t) r = rw t (ap (λ (l : List ℕ). pick (eqb (a .kid) kid) [] l) r)
+    by (sealed x) (no′ t) r = rw t r
+    by (opened x) (no′ t) r = rw t (ap (λ (l : List ℕ). pick (eqb (x .kid) kid) (x .ctr ∷ l) l) r)
+    by other (no′ t) r = rw t r
+
+unopened-line : (n : ℕ) (f : Sealing → Sealing) (log : List Event) → EachUnopened log → EachUnopened (onLine n f log)
+unfolding onLine
+unopened-line n f [] p = tt
+unopened-line n f (e ∷ log) p = by e (two (eqb (length log) n)) p (unopened-line n f log)
+  where
+    by : (e : Event) → Two (eqb (length log) n) → EachUnopened (e ∷ log) → (EachUnopened log → EachUnopened (onLine n f log)) → EachUnopened (onLine n f (e ∷ log))
+    by (added a) (yes′ t) p r = rw t p
+    by (sealed x) (yes′ t) p r = rw t p
+    by (opened x) (yes′ t) p r = rw t p
+    by other (yes′ t) p r = rw t p
+    by (added a) (no′ t) p r = rw t (r p)
+    by (sealed x) (no′ t) p r = rw t (r p)
+    by (opened x) (no′ t) p r = rw t (rw (since-line (x .kid) n f log) (p .0), r (p .1))
+    by other (no′ t) p r = rw t (r p)
+
 -- ---- each call
 
 module _ (h : History) (v : Watch h) where
+  -- a call of a line
+  lines-by : (n : ℕ) (f : Sealing → Sealing) → Watch (record { store = h .store; log = other ∷ onLine n f (h .log) })
+  unfolding since
+  lines-by n f = record {
+    table = v .table;
+    is-stored = v .is-stored;
+    guarded = λ k. rw (since-line k n f (h .log)) (v .guarded k);
+    each = unopened-line n f (h .log) (v .each);
+  }
+
   -- a call after which nothing is another
   goes-by : (s : List ℕ) (e : Event) → s ≡ h .store → e ≡ other → Watch (record { store = s; log = e ∷ h .log })
   unfolding since
@@ -145,7 +190,7 @@ module _ (h : History) (v : Watch h) where
 
 module _ (cipher : Cipher) (laws : Laws cipher) where
   watch-step : (c : Call) (h : History) → Typed c → Watch h → Watch (step cipher c h)
-  unfolding step outcome event since
+  unfolding step outcome event onward since
   watch-step (Add role kid suite base) h q v = by (add-step cipher laws (h .store) (v .table) (v .is-stored) role kid suite base (q .0) (q .1))
     where
       by : AddStep cipher (h .store) (v .table) role kid suite base (add cipher (h .store) role kid suite base) → Watch (step cipher (Add role kid suite base) h)
@@ -186,6 +231,17 @@ module _ (cipher : Cipher) (laws : Laws cipher) where
       by : EpochStep width bits (h .store) (v .table) (changeEpoch (h .store) width bits) → Watch (step cipher (ChangeEpoch width bits) h)
       by (EpochStep.refused d e) = goes-by h v _ _ e refl
       by (EpochStep.done z c st) = record { table = withoutEpoch width bits (v .table); is-stored = st; guarded = guarded-swept width bits (v .table) (withoutEpoch width bits (v .table)) c (h .log) (v .guarded); each = v .each }
+  watch-step (Begin kid metadata announced state room) h q v = by (begin-step cipher (h .store) (v .table) (v .is-stored) kid metadata announced state room)
+    where
+      by : BeginStep cipher (h .store) (v .table) kid metadata announced state (sealBegin cipher (h .store) kid metadata announced state room) → Watch (step cipher (Begin kid metadata announced state room) h)
+      by (BeginStep.refused d e) = goes-by h v _ _ e (passed-by _ _ d)
+      by (BeginStep.done r p) =
+          puts h v _ _ (sealed _) kid (next r) (put kid (next r) (v .table)) (p .change) (p .store-is) (happened _ _ (p .answers)) (λ k d. refl) (none-guarded (Guards (next r)) (λ c. tt) (since kid (h .log))) (v .each)
+  watch-step (Piece line piece room) h q v = lines-by h v line _
+  watch-step (End line room) h q v = lines-by h v line _
+  watch-step (CheckBegin metadata header announced state) h q v = goes-by h v _ _ (check-store cipher (h .store) metadata header announced state) refl
+  watch-step (CheckPiece state piece) h q v = goes-by h v _ _ refl refl
+  watch-step (CheckEnd state tag) h q v = goes-by h v _ _ refl refl
 
   pub run-watch : (cs : List Call) (h : History) → AllTyped cs → Watch h → Watch (run cipher cs h)
   unfolding run

@@ -148,12 +148,12 @@ module _ (cipher : Cipher) (laws : Laws cipher) (s : List ℕ) (rs : List KeyRec
 
       opened : seen w ctr ≡ false → tooOld w ctr ≡ false → (p : List ℕ) → tagSize (r .suite) ≤ length bytes - n
           → cipher .decrypt (r .suite) (r .key) (cipher .nonce (r .salt) ctr) (take n bytes ++ metadata) (drop n bytes) ≡ plain p
-          → opening cipher s metadata bytes room ≡ record { number = 0; written = length p; store = encodeAll (put kid (receiving r (moved w ctr)) rs); room = p ++ drop (length p) room }
+          → opening cipher s metadata bytes room ≡ record { number = 0; written = length p; store = encodeAll (put kid (receiving r (moved w ctr)) rs); room = p ++ drop (length p) room; state = [] }
       unfolding openAt decrypted noted
       opened new young p h e =
           open-here
           ∙ settled-done _ s room _ (none-applies _ (causes-pass new young p h e))
-          ∙ ap (λ (d : Decrypted). record { number = 0; written = length (plainOf d); store = encodeAll (put kid (receiving r (moved w ctr)) rs); room = plainOf d ++ drop (length (plainOf d)) room }) e
+          ∙ ap (λ (d : Decrypted). record { number = 0; written = length (plainOf d); store = encodeAll (put kid (receiving r (moved w ctr)) rs); room = plainOf d ++ drop (length (plainOf d)) room; state = [] }) e
 
       passed : opening cipher s metadata bytes room .number ≡ 0
           → (tagSize (r .suite) ≤ length bytes - n)
@@ -202,7 +202,7 @@ module _ (cipher : Cipher) (laws : Laws cipher) where
       found = holds-get s r (q .offered .held)
 
       outcome-is : (e : Encryption cipher r ctr n metadata bytes)
-          → opening cipher s metadata bytes room ≡ record { number = 0; written = length (e .plaintext); store = encodeAll (put (r .kid) (receiving r (moved (q .offered .held .window) ctr)) (records s)); room = e .plaintext ++ drop (length (e .plaintext)) room }
+          → opening cipher s metadata bytes room ≡ record { number = 0; written = length (e .plaintext); store = encodeAll (put (r .kid) (receiving r (moved (q .offered .held .window) ctr)) (records s)); room = e .plaintext ++ drop (length (e .plaintext)) room; state = [] }
       outcome-is e =
           let l = lengths cipher laws s (records s) t metadata bytes room (g .metadata-octets) (g .bytes-octets) (r .kid) ctr n (g .header-is) r w found (e .plaintext) (e .octets) (e .is-frame) in
           opened cipher laws s (records s) t metadata bytes room (g .metadata-octets) (g .bytes-octets) (r .kid) ctr n (g .header-is) r w found

@@ -1,11 +1,13 @@
 -- A store that is made is sound, every call leaves a sound store sound, and a refusal changes nothing. Assumes nothing.
-use mathlib.Core.Path.{_≡_, refl, _∙_, ap}
+use mathlib.Core.Path.{_≡_, refl, sym, _∙_, ap}
 use mathlib.Core.Bool.{Bool, true}
 use mathlib.Core.List.{List, []}
 use Prim.Native.Nat.{ℕ, zero, suc, _/_}
 use lib.ListN.{length, replicate}
 use Rattle.octets.specs.Octets.{Octets, pick}
 use Rattle.answers.specs.Answers.{Outcome, settled}
+use Rattle.answers.proofs.Basics.{RefusalOn}
+use Rattle.pieces.specs.Calls.{Result, refusal, sealPiece, sealEnd, checkPiece}
 use Rattle.store.specs.Calls.{make, removeAt, remove, find}
 use Rattle.add_key.specs.Add.{addAt, add}
 use Rattle.store.specs.Cipher.{Cipher}
@@ -17,6 +19,9 @@ use Rattle.store.proofs.Keys.{make-stored, RemoveStep, remove-step}
 use Rattle.add_key.proofs.Adds.{AddStep, add-step}
 use Rattle.store.proofs.Stores.{Stored, sound-stored, stored-sound, stored-records, stored-octets, stored-lengths}
 use Rattle.seal_frame.specs.Seal.{sealAt, seal}
+use Rattle.begin_seal.specs.Begin.{sealBegin}
+use Rattle.begin_seal.proofs.Begins.{begin-refused, BeginStep, begin-step}
+use Rattle.begin_check.proofs.Checks.{check-store, check-begin-refused}
 use Rattle.open_frame.specs.Open.{openAt, opening}
 use Rattle.open_frame.proofs.Opened.{OpenStep, open-step}
 use Rattle.report_window.specs.Report.{report}
@@ -25,8 +30,9 @@ use Rattle.header.specs.Header.{readHeader}
 use Rattle.change_epoch.specs.Epoch.{withoutEpoch, epochAt, changeEpoch}
 use Rattle.change_epoch.proofs.Epochs.{EpochStep, epoch-step}
 use Rattle.sframe.specs.Promises.{Unchanged, EpochChanged}
-use Rattle.sframe.specs.History.{Call, Add, Remove, Seal, Open, Report, Find, ChangeEpoch, Typed, outcome}
+use Rattle.sframe.specs.History.{Call, Add, Remove, Seal, Open, Report, Find, ChangeEpoch, Begin, Piece, End, CheckBegin, CheckPiece, CheckEnd, Typed, roomOf, stateOf, Event, stateOn, beside, outcome}
 use Rattle.sframe.proofs.Ledger.{find-store, report-store}
+use Rattle.sframe.proofs.Refusals.{piece-refused, end-refused, check-refused}
 use Rattle.seal_frame.proofs.Seals.{SealStep, seal-step}
 
 -- bytes that are a table are a sound store
@@ -37,56 +43,84 @@ pub made-sound : (s : List ℕ) → make s .number ≡ 0 → Octets (make s .sto
 made-sound s e = let m = make-stored s e in sound-bytes (make s .store) (replicate (m .count) empty) (m .is-stored)
 
 module _ (cipher : Cipher) (laws : Laws cipher) where
-  pub call-sound : (c : Call) (s : List ℕ) → Typed c → Octets s → sound s ≡ true → Octets (outcome cipher c s .store) × (sound (outcome cipher c s .store) ≡ true)
+  pub call-sound : (c : Call) (s : List ℕ) (log : List Event) → Typed c → Octets s → sound s ≡ true → Octets (outcome cipher c s log .store) × (sound (outcome cipher c s log .store) ≡ true)
   unfolding outcome
-  call-sound (Add role kid suite base) s q o e = by (add cipher s role kid suite base) (add-step cipher laws s (records s) (sound-stored s o e) role kid suite base (q .0) (q .1))
+  call-sound (Add role kid suite base) s log q o e = by (add cipher s role kid suite base) (add-step cipher laws s (records s) (sound-stored s o e) role kid suite base (q .0) (q .1))
     where
       by : (x : Outcome) → AddStep cipher s (records s) role kid suite base x → Octets (x .store) × (sound (x .store) ≡ true)
       by x (AddStep.done z k a f c t) = sound-bytes (x .store) _ t
       by x (AddStep.refused d p) = rw p (o, e)
-  call-sound (Remove kid place) s q o e = by (remove s kid) (remove-step s (records s) (sound-stored s o e) kid)
+  call-sound (Remove kid place) s log q o e = by (remove s kid) (remove-step s (records s) (sound-stored s o e) kid)
     where
       by : (x : Outcome) → RemoveStep s (records s) kid x → Octets (x .store) × (sound (x .store) ≡ true)
       by x (RemoveStep.freed r w z g c t) = sound-bytes (x .store) _ t
       by x (RemoveStep.closed r z g c t) = sound-bytes (x .store) _ t
       by x (RemoveStep.refused d p) = rw p (o, e)
-  call-sound (Seal kid place metadata plaintext offset room) s q o e =
+  call-sound (Seal kid place metadata plaintext offset room) s log q o e =
       by (seal cipher s kid metadata plaintext offset room) (seal-step cipher laws s (records s) (sound-stored s o e) kid metadata plaintext offset room)
     where
       by : (x : Outcome) → SealStep cipher s (records s) kid metadata plaintext offset x → Octets (x .store) × (sound (x .store) ≡ true)
       by x (SealStep.done r p) = sound-bytes (x .store) _ (p .store-is)
       by x (SealStep.refused d p) = rw p (o, e)
-  call-sound (Open place metadata bytes room) s q o e = by (opening cipher s metadata bytes room) (open-step cipher s (records s) (sound-stored s o e) metadata bytes room (q .1))
+  call-sound (Open place metadata bytes room) s log q o e = by (opening cipher s metadata bytes room) (open-step cipher s (records s) (sound-stored s o e) metadata bytes room (q .1))
     where
       by : (x : Outcome) → OpenStep s (records s) (readKid (readHeader bytes)) (readCtr (readHeader bytes)) x → Octets (x .store) × (sound (x .store) ≡ true)
       by x (OpenStep.done r w p) = sound-bytes (x .store) _ (p .store-is)
       by x (OpenStep.refused d p) = rw p (o, e)
-  call-sound (Report kid) s q o e = rw (report-store s kid) (o, e)
-  call-sound (Find kid) s q o e = rw (find-store s kid) (o, e)
-  call-sound (ChangeEpoch width bits) s q o e = by (changeEpoch s width bits) (epoch-step width bits s (records s) (sound-stored s o e))
+  call-sound (Report kid) s log q o e = rw (report-store s kid) (o, e)
+  call-sound (Find kid) s log q o e = rw (find-store s kid) (o, e)
+  call-sound (ChangeEpoch width bits) s log q o e = by (changeEpoch s width bits) (epoch-step width bits s (records s) (sound-stored s o e))
     where
       by : (x : Outcome) → EpochStep width bits s (records s) x → Octets (x .store) × (sound (x .store) ≡ true)
       by x (EpochStep.done z c t) = sound-bytes (x .store) _ t
       by x (EpochStep.refused d p) = rw p (o, e)
+  call-sound (Begin kid metadata announced state room) s log q o e =
+      by (sealBegin cipher s kid metadata announced state room) (begin-step cipher s (records s) (sound-stored s o e) kid metadata announced state room)
+    where
+      by : (x : Outcome) → BeginStep cipher s (records s) kid metadata announced state x → Octets (x .store) × (sound (x .store) ≡ true)
+      by x (BeginStep.done r p) = sound-bytes (x .store) _ (p .store-is)
+      by x (BeginStep.refused d p) = rw p (o, e)
+  call-sound (Piece line piece room) s log q o e = (o, e)
+  call-sound (End line room) s log q o e = (o, e)
+  call-sound (CheckBegin metadata header announced state) s log q o e = rw (check-store cipher s metadata header announced state) (o, e)
+  call-sound (CheckPiece state piece) s log q o e = (o, e)
+  call-sound (CheckEnd state tag) s log q o e = (o, e)
 
 -- ---- refusals
 
-unchanged : (n : ℕ) (s room : List ℕ) (o : Outcome) → o .number ≡ 0 → (settled n s room o .number ≡ 0 → ⊥)
-    → (settled n s room o .written ≡ 0) × (settled n s room o .store ≡ s) × (settled n s room o .room ≡ room)
+-- a call without a running state, one with a running state, and one on a running state alone
+refused-settled : (c : Call) (log : List Event) (n : ℕ) (s : List ℕ) (o : Outcome) → stateOf c log ≡ [] → o .number ≡ 0 → (settled n s (roomOf c) o .number ≡ 0 → ⊥) → Unchanged c s log (settled n s (roomOf c) o)
 unfolding settled
-unchanged zero s room o z d = absurd (d z)
-unchanged (suc n) s room o z d = (refl, refl, refl)
+refused-settled c log zero s o e z d = absurd (d z)
+refused-settled c log (suc n) s o e z d = record { nothing-written = refl; store-stays = refl; room-stays = refl; state-stays = sym e }
 
--- of any store, sound or not
-pub refusal-changes-nothing : (cipher : Cipher) (c : Call) (s : List ℕ) → (outcome cipher c s .number ≡ 0 → ⊥) → Unchanged c s (outcome cipher c s)
+refused-on : (c : Call) (log : List Event) (n : ℕ) (s : List ℕ) (o : Outcome) → RefusalOn n s (roomOf c) (stateOf c log) o → Unchanged c s log o
+refused-on c log n s o r = record { nothing-written = r .nothing-written; store-stays = r .store-stays; room-stays = r .room-stays; state-stays = r .state-stays }
+
+refused-beside : (c : Call) (log : List Event) (s : List ℕ) (r : Result) → (r .number ≡ 0 → ⊥) → r ≡ refusal (r .number) (stateOf c log) (roomOf c) → Unchanged c s log (beside s r)
+refused-beside c log s r d e = record {
+  nothing-written = ap (λ (x : Result). x .written) e;
+  store-stays = refl;
+  room-stays = ap (λ (x : Result). x .room) e;
+  state-stays = ap (λ (x : Result). x .state) e;
+}
+
+-- of any store, sound or not, after any events
+pub refusal-changes-nothing : (cipher : Cipher) (c : Call) (s : List ℕ) (log : List Event) → (outcome cipher c s log .number ≡ 0 → ⊥) → Unchanged c s log (outcome cipher c s log)
 unfolding outcome add addAt remove removeAt seal sealAt opening openAt report find changeEpoch epochAt
-refusal-changes-nothing cipher (Add role kid suite base) s d = let u = unchanged _ s [] _ refl d in record { nothing-written = u .0; store-stays = u .1; room-stays = u .2 }
-refusal-changes-nothing cipher (Remove kid place) s d = let u = unchanged _ s [] _ refl d in record { nothing-written = u .0; store-stays = u .1; room-stays = u .2 }
-refusal-changes-nothing cipher (Seal kid place metadata plaintext offset room) s d = let u = unchanged _ s room _ refl d in record { nothing-written = u .0; store-stays = u .1; room-stays = u .2 }
-refusal-changes-nothing cipher (Open place metadata bytes room) s d = let u = unchanged _ s room _ refl d in record { nothing-written = u .0; store-stays = u .1; room-stays = u .2 }
-refusal-changes-nothing cipher (Report kid) s d = let u = unchanged _ s [] _ refl d in record { nothing-written = u .0; store-stays = u .1; room-stays = u .2 }
-refusal-changes-nothing cipher (Find kid) s d = let u = unchanged _ s [] _ refl d in record { nothing-written = u .0; store-stays = u .1; room-stays = u .2 }
-refusal-changes-nothing cipher (ChangeEpoch width bits) s d = let u = unchanged _ s [] _ refl d in record { nothing-written = u .0; store-stays = u .1; room-stays = u .2 }
+refusal-changes-nothing cipher (Add role kid suite base) s log d = refused-settled (Add role kid suite base) log _ s _ refl refl d
+refusal-changes-nothing cipher (Remove kid place) s log d = refused-settled (Remove kid place) log _ s _ refl refl d
+refusal-changes-nothing cipher (Seal kid place metadata plaintext offset room) s log d = refused-settled (Seal kid place metadata plaintext offset room) log _ s _ refl refl d
+refusal-changes-nothing cipher (Open place metadata bytes room) s log d = refused-settled (Open place metadata bytes room) log _ s _ refl refl d
+refusal-changes-nothing cipher (Report kid) s log d = refused-settled (Report kid) log _ s _ refl refl d
+refusal-changes-nothing cipher (Find kid) s log d = refused-settled (Find kid) log _ s _ refl refl d
+refusal-changes-nothing cipher (ChangeEpoch width bits) s log d = refused-settled (ChangeEpoch width bits) log _ s _ refl refl d
+refusal-changes-nothing cipher (Begin kid metadata announced state room) s log d = refused-on (Begin kid metadata announced state room) log _ s _ (begin-refused cipher s kid metadata announced state room d)
+refusal-changes-nothing cipher (Piece line piece room) s log d = refused-beside (Piece line piece room) log s (sealPiece (stateOn line log) piece room) d (piece-refused (stateOn line log) piece room d)
+refusal-changes-nothing cipher (End line room) s log d = refused-beside (End line room) log s (sealEnd (stateOn line log) room) d (end-refused (stateOn line log) room d)
+refusal-changes-nothing cipher (CheckBegin metadata header announced state) s log d = refused-on (CheckBegin metadata header announced state) log _ s _ (check-begin-refused cipher s metadata header announced state d)
+refusal-changes-nothing cipher (CheckPiece state piece) s log d = refused-beside (CheckPiece state piece) log s (checkPiece state piece) d (check-refused state piece d)
+refusal-changes-nothing cipher (CheckEnd state tag) s log d = record { nothing-written = refl; store-stays = refl; room-stays = refl; state-stays = refl }
 
 -- ---- a change of epoch
 

@@ -4,12 +4,12 @@ use mathlib.Core.Path.{_≡_}
 use mathlib.Core.Bool.{Bool, true, false}
 use mathlib.Core.List.{List, [], _∷_, _++_}
 use mathlib.Core.Logic.{_↔_}
-use Prim.Native.Nat.{ℕ, _-_, _≤_}
+use Prim.Native.Nat.{ℕ, _+_, _-_, _≤_}
 use lib.Dec.{eqb}
 use lib.ListN.{length, getD, take, drop}
 use Rattle.octets.specs.Octets.{Octets, pick}
 use Rattle.header.specs.Answers.{readKid, readCtr, done, readNumber}
-use Rattle.header.specs.Header.{readHeader}
+use Rattle.header.specs.Header.{header, readHeader}
 use Rattle.header.specs.declared.Reading.the-variants.{Header}
 use Rattle.answers.specs.Answers.{alreadyOpened, counterTooOld, Outcome}
 use Rattle.store.specs.Cipher.{Cipher}
@@ -24,7 +24,7 @@ use Rattle.open_frame.specs.Open.{opening}
 use Rattle.seal_frame.specs.Frame.{frameWith, frame}
 use Rattle.change_epoch.specs.Epoch.{ofEpoch}
 use Rattle.key_record.specs.Suites.{tagSize}
-use Rattle.sframe.specs.History.{Call, roomOf, Adding, Sealing, Opening, Event, added, sealed, opened, other}
+use Rattle.sframe.specs.History.{Call, roomOf, stateOf, Adding, Sealing, Opening, Event, added, sealed, opened, other}
 use Rattle.key_record.specs.declared.Role.{Role}
 use Rattle.key_record.specs.declared.Role.the-variants.{Sending, Receiving}
 
@@ -57,11 +57,12 @@ pub record OpenedTo (plaintext : List ℕ) (o : Outcome) : Type 0 where
   pub writes : o .written ≡ length plaintext
   pub starts : take (length plaintext) (o .room) ≡ plaintext
 
--- A refusal: length 0, every lent byte stays.
-pub record Unchanged (c : Call) (s : List ℕ) (o : Outcome) : Type 0 where
+-- A refusal, after those events: length 0, every lent byte stays.
+pub record Unchanged (c : Call) (s : List ℕ) (log : List Event) (o : Outcome) : Type 0 where
   pub nothing-written : o .written ≡ 0
   pub store-stays : o .store ≡ s
   pub room-stays : o .room ≡ roomOf c
+  pub state-stays : o .state ≡ stateOf c log
 
 -- A sound store holds a key for receiving: the record stands in it at some place, with a window that may be any.
 pub record Holds (s : List ℕ) (r : ReceivingKey) : Type 0 where
@@ -124,7 +125,7 @@ module _ (cipher : Cipher) where
 
   -- ---- every list of calls
 
-  -- One sealed frame, with the events before it.
+  -- One sealed frame, with the events before it. What is said of the header holds of every sealing begun.
   pub record Frame (x : Sealing) (earlier : List Event) : Type 0 where
     -- it has a header
     pub header-read : readNumber (readHeader (x .frame)) ≡ done
@@ -132,11 +133,16 @@ module _ (cipher : Cipher) where
     pub add : Adding
     pub only : senders (kidOf x) earlier ≡ add ∷ []
     pub its-kid : add .kid ≡ kidOf x
-    -- it was sealed under that Add's suite, and the key and salt derived from it: it is the RFC's frame
-    pub sealed-under : x .frame ≡ frame cipher (add .suite) (keyFrom add) (saltFrom add) (kidOf x) (ctrOf x) (x .metadata) (x .plaintext)
-    -- every sound store that holds that KID, suite, key and salt for receiving, with a window that has neither seen its counter nor
-    -- lies past it, opens it, given its metadata and "room for its plaintext"
-    pub opens : (s room : List ℕ) (h : Holds s (record { suite = add .suite; kid = kidOf x; salt = saltFrom add; key = keyFrom add })) → length (x .plaintext) ≤ length room
+    -- it was begun under that Add's suite, and the key and salt derived from it: until its end it is the RFC's frame of the plaintext so
+    -- far, without the tag
+    pub begun-under : x .finished ≡ false
+        → x .frame ≡ take (length (header (kidOf x) (ctrOf x)) + length (x .plaintext)) (frame cipher (add .suite) (keyFrom add) (saltFrom add) (kidOf x) (ctrOf x) (x .metadata) (x .plaintext))
+    -- finished, it is the RFC's frame
+    pub sealed-under : x .finished ≡ true → x .frame ≡ frame cipher (add .suite) (keyFrom add) (saltFrom add) (kidOf x) (ctrOf x) (x .metadata) (x .plaintext)
+    -- finished, every sound store that holds that KID, suite, key and salt for receiving, with a window that has neither seen its counter
+    -- nor lies past it, opens it, given its metadata and "room for its plaintext"
+    pub opens : x .finished ≡ true
+        → (s room : List ℕ) (h : Holds s (record { suite = add .suite; kid = kidOf x; salt = saltFrom add; key = keyFrom add })) → length (x .plaintext) ≤ length room
         → seen (h .window) (ctrOf x) ≡ false → tooOld (h .window) (ctrOf x) ≡ false → OpenedTo (x .plaintext) (opening cipher s (x .metadata) (x .frame) room)
 
   -- Two sealed frames, each with the events before it.
@@ -199,6 +205,7 @@ pub record SameAnswer (s t : List ℕ) (i j : ℕ) (o p : Outcome) : Type 0 wher
   pub same-number : o .number ≡ p .number
   pub same-length : o .written ≡ p .written
   pub same-room : o .room ≡ p .room
+  pub same-state : o .state ≡ p .state
   pub same-record : getD (records (o .store)) i empty ≡ getD (records (p .store)) j empty
   pub s-others : OthersStay s o i
   pub t-others : OthersStay t p j

@@ -10,6 +10,9 @@ ghost use Rattle.key_record.specs.declared.Role.the-variants.{Sending, Receivin
 ghost use Rattle.add_key.specs.Add.{add};
 ghost use Rattle.seal_frame.specs.Seal.{seal};
 ghost use Rattle.open_frame.specs.Open.{opening};
+ghost use Rattle.begin_seal.specs.Begin.{sealBegin};
+ghost use Rattle.begin_check.specs.Check.{checkBegin};
+ghost use Rattle.pieces.specs.Calls.{sealPiece, sealEnd, checkPiece, checkEnd};
 ghost use Rattle.report_window.specs.Report.{report, reported};
 ghost use Rattle.ratchet.specs.Calls.{walk, kidNumber, kidGiven};
 ghost use Rattle.group.specs.Group.{contextIn, indexIn, epochIn, given, packNumber, packed, unpackNumber};
@@ -235,6 +238,88 @@ pub extern "C" fn sframe_open_near(
     let answer = open_frame::open(store, place, frame, metadata, out);
     *length = answer.length;
     answer.number
+}
+
+// Begins to seal in pieces.
+#[no_mangle]
+pub extern "C" fn sframe_seal_begin(
+    store: &mut [u8],
+    kid: u64,
+    metadata: &[u8],
+    announced: u64,
+    state: &mut [u8],
+    out: &mut [u8],
+    length: &mut usize,
+) -> u32
+    ensures { λ r. ⌜ r ≡ sealBegin sframe (now (store .entry)) kid (now (metadata .entry)) announced (now (state .entry)) (now (out .entry)) .number ⌝ }
+    ensures { λ r. ⌜ now (length .exit) ≡ sealBegin sframe (now (store .entry)) kid (now (metadata .entry)) announced (now (state .entry)) (now (out .entry)) .written ⌝ }
+    ensures { λ r. ⌜ now (store .exit) ≡ sealBegin sframe (now (store .entry)) kid (now (metadata .entry)) announced (now (state .entry)) (now (out .entry)) .store ⌝ }
+    ensures { λ r. ⌜ now (out .exit) ≡ sealBegin sframe (now (store .entry)) kid (now (metadata .entry)) announced (now (state .entry)) (now (out .entry)) .room ⌝ }
+    ensures { λ r. ⌜ now (state .exit) ≡ sealBegin sframe (now (store .entry)) kid (now (metadata .entry)) announced (now (state .entry)) (now (out .entry)) .state ⌝ }
+{
+    let n = announced as usize;
+    let answer = begin_seal::seal_begin(store, Kid(kid), FRONT, metadata, n, state, out);
+    *length = answer.length;
+    answer.number
+}
+
+#[no_mangle]
+pub extern "C" fn sframe_seal_piece(
+    state: &mut [u8],
+    piece: &[u8],
+    out: &mut [u8],
+    length: &mut usize,
+) -> u32
+    ensures { λ r. ⌜ r ≡ sealPiece (now (state .entry)) (now (piece .entry)) (now (out .entry)) .number ⌝ }
+    ensures { λ r. ⌜ now (length .exit) ≡ sealPiece (now (state .entry)) (now (piece .entry)) (now (out .entry)) .written ⌝ }
+    ensures { λ r. ⌜ now (state .exit) ≡ sealPiece (now (state .entry)) (now (piece .entry)) (now (out .entry)) .state ⌝ }
+    ensures { λ r. ⌜ now (out .exit) ≡ sealPiece (now (state .entry)) (now (piece .entry)) (now (out .entry)) .room ⌝ }
+{
+    let answer = pieces::seal_piece(state, piece, out);
+    *length = answer.length;
+    answer.number
+}
+
+#[no_mangle]
+pub extern "C" fn sframe_seal_end(state: &[u8], out: &mut [u8], length: &mut usize) -> u32
+    ensures { λ r. ⌜ r ≡ sealEnd (now (state .entry)) (now (out .entry)) .number ⌝ }
+    ensures { λ r. ⌜ now (length .exit) ≡ sealEnd (now (state .entry)) (now (out .entry)) .written ⌝ }
+    ensures { λ r. ⌜ now (out .exit) ≡ sealEnd (now (state .entry)) (now (out .entry)) .room ⌝ }
+{
+    let answer = pieces::seal_end(state, out);
+    *length = answer.length;
+    answer.number
+}
+
+// Begins to check a received frame in pieces.
+#[no_mangle]
+pub extern "C" fn sframe_check_begin(
+    store: &[u8],
+    header: &[u8],
+    metadata: &[u8],
+    announced: u64,
+    state: &mut [u8],
+) -> u32
+    ensures { λ r. ⌜ r ≡ checkBegin sframe (now (store .entry)) (now (metadata .entry)) (now (header .entry)) announced (now (state .entry)) .number ⌝ }
+    ensures { λ r. ⌜ now (state .exit) ≡ checkBegin sframe (now (store .entry)) (now (metadata .entry)) (now (header .entry)) announced (now (state .entry)) .state ⌝ }
+{
+    let n = announced as usize;
+    begin_check::check_begin(store, FRONT, header, metadata, n, state)
+}
+
+#[no_mangle]
+pub extern "C" fn sframe_check_piece(state: &mut [u8], piece: &[u8]) -> u32
+    ensures { λ r. ⌜ r ≡ checkPiece (now (state .entry)) (now (piece .entry)) .number ⌝ }
+    ensures { λ r. ⌜ now (state .exit) ≡ checkPiece (now (state .entry)) (now (piece .entry)) .state ⌝ }
+{
+    pieces::check_piece(state, piece)
+}
+
+#[no_mangle]
+pub extern "C" fn sframe_check_end(state: &[u8], tag: &[u8]) -> u32
+    ensures { λ r. ⌜ r ≡ checkEnd (now (state .entry)) (now (tag .entry)) ⌝ }
+{
+    pieces::check_end(state, tag)
 }
 
 // The place of a key's record, for the calls that take one.

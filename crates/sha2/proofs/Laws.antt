@@ -29,25 +29,25 @@ pieces-lengths m a b h k =
 -- ---- digests
 
 module _ (p : Params) where
-  adds-length : (h v : List ℕ) → length (adds p h v) ≡ length h
+  pub adds-length : (h v : List ℕ) → length (adds p h v) ≡ length h
   adds-length [] v = refl
   adds-length (x ∷ h) v = ap suc (adds-length h (drop 1 v))
 
-  compress-length : (h b : List ℕ) → length (compress p h b) ≡ length h
+  pub compress-length : (h b : List ℕ) → length (compress p h b) ≡ length h
   unfolding compress
   compress-length h b = adds-length h _
 
-  chain-length : (n : ℕ) (h m : List ℕ) → length (chain p n h m) ≡ length h
+  pub chain-length : (n : ℕ) (h m : List ℕ) → length (chain p n h m) ≡ length h
   unfolding chain
   chain-length zero h m = refl
   chain-length (suc n) h m = chain-length n (compress p h (take (p .block) m)) (drop (p .block) m) ∙ compress-length h (take (p .block) m)
 
-  joined-length : (h : List ℕ) → length (joined p h) ≡ p .size * length h
+  pub joined-length : (h : List ℕ) → length (joined p h) ≡ p .size * length h
   unfolding joined
   joined-length [] = sym (mul-zero (p .size))
   joined-length (x ∷ h) = rw (length-append, bytes-length, joined-length h, mul-suc, add-comm)
 
-  joined-octets : (h : List ℕ) → Octets (joined p h)
+  pub joined-octets : (h : List ℕ) → Octets (joined p h)
   unfolding joined
   joined-octets [] i = omega arith
   joined-octets (x ∷ h) i = octets-append (bytes (p .size) x) (joined p h) (bytes-octets (p .size) x) (joined-octets h) i
@@ -149,11 +149,11 @@ module _ (p : Params) (pos : 0 < p .block) where
   -- ---- the running hash
 
   -- the whole blocks of a message, and what is left
-  whole : (m : List ℕ) → take (length m / p .block * p .block) m ++ left p m ≡ m
+  pub whole : (m : List ℕ) → take (length m / p .block * p .block) m ++ left p m ≡ m
   unfolding left
   whole m = take-append-drop (length m / p .block * p .block) m
 
-  left-length : (m : List ℕ) → length (left p m) ≡ length m % p .block
+  pub left-length : (m : List ℕ) → length (left p m) ≡ length m % p .block
   unfolding left
   left-length m = length-drop (length m / p .block * p .block) m ∙ sym (mod-eq-sub-div-mul (length m) (p .block))
 
@@ -161,17 +161,17 @@ module _ (p : Params) (pos : 0 < p .block) where
   unfolding left
   left-short m h = rw (div-eq-of-lt h, zero-mul)
 
-  whole-length : (m : List ℕ) → length (take (length m / p .block * p .block) m) ≡ length m / p .block * p .block
+  pub whole-length : (m : List ℕ) → length (take (length m / p .block * p .block) m) ≡ length m / p .block * p .block
   whole-length m = length-take-le _ m (div-mul-le-self (length m) (p .block))
 
-  run-whole : (h m : List ℕ) → run p h (take (length m / p .block * p .block) m) ≡ run p h m
+  pub run-whole : (h m : List ℕ) → run p h (take (length m / p .block * p .block) m) ≡ run p h m
   run-whole h m =
       let a : List ℕ = take (length m / p .block * p .block) m in
       sym (run-short (run p h a) (left p m) (rw (left-length m) (mod-lt (length m) pos)))
       ∙ sym (run-append (length m / p .block) h a (left p m) (whole-length m))
       ∙ ap (run p h) (whole m)
 
-  stands-fed : (h w m s : List ℕ) → Stands p h w m → Stands p (run p h (w ++ s)) (left p (w ++ s)) (m ++ s)
+  pub stands-fed : (h w m s : List ℕ) → Stands p h w m → Stands p (run p h (w ++ s)) (left p (w ++ s)) (m ++ s)
   stands-fed h w m s f =
       let x : List ℕ = w ++ s in
       rw (run-whole h x) at
@@ -179,7 +179,7 @@ module _ (p : Params) (pos : 0 < p .block) where
       (subst (λ (c : List ℕ). Stands p h c (m ++ s)) (sym (whole x)) (stands-wait h w m s f)))
 
   -- what a room holds
-  room-holds : (w : List ℕ) (n : ℕ) → length w ≡ n → take n (roomOf p w) ≡ w
+  pub room-holds : (w : List ℕ) (n : ℕ) → length w ≡ n → take n (roomOf p w) ≡ w
   unfolding roomOf
   room-holds w n e = take-at w _ n e
 
@@ -189,7 +189,7 @@ module _ (p : Params) (pos : 0 < p .block) where
       let n : p .block - length w ≡ 0 = omega arith in
       rw n (append-nil w)
 
-  waits-fed : (h : State) (s : List ℕ) → length (h .room) ≡ p .block → waits p (fed p h s) ≡ left p (waits p h ++ s)
+  pub waits-fed : (h : State) (s : List ℕ) → length (h .room) ≡ p .block → waits p (fed p h s) ≡ left p (waits p h ++ s)
   waits-fed h s e =
       let m : h .len % p .block < p .block = mod-lt (h .len) pos in
       let l : length (waits p h) ≡ h .len % p .block = length-take-le (h .len % p .block) (h .room) (omega arith) in

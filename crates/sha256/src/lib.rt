@@ -20,22 +20,22 @@ ghost use Rattle.sha256.specs.inner.State.{words256, state256, Fed256};
 
 // Eight words: a hash value, or the working variables a to h.
 pub struct Words256 {
-    a: u32,
-    b: u32,
-    c: u32,
-    d: u32,
-    e: u32,
-    f: u32,
-    g: u32,
-    h: u32,
+    pub a: u32,
+    pub b: u32,
+    pub c: u32,
+    pub d: u32,
+    pub e: u32,
+    pub f: u32,
+    pub g: u32,
+    pub h: u32,
 }
 
 // The running hash: the hash value of the whole blocks fed, the bytes after them, and the number of
 // bytes fed in all.
 pub struct Sha256 {
-    value: Words256,
-    waiting: [u8; 64],
-    len: u64,
+    pub value: Words256,
+    pub waiting: [u8; 64],
+    pub len: u64,
 }
 
 fn ch(x: u32, y: u32, z: u32) -> u32
@@ -230,7 +230,7 @@ fn blocks(h: Words256, s: &[u8]) -> Words256
 }
 
 // The bytes of a hash value.
-fn digest(h: Words256) -> [u8; 32]
+pub fn digest(h: Words256) -> [u8; 32]
     ensures { λ r. ⌜ r ≡ joined sha256 (words256 h) ⌝ }
 {
     let words = [h.a, h.b, h.c, h.d, h.e, h.f, h.g, h.h];
@@ -244,7 +244,7 @@ fn digest(h: Words256) -> [u8; 32]
 }
 
 // A block's room that holds front and back, with zeros behind them.
-fn room(front: &[u8], back: &[u8]) -> [u8; 64]
+pub fn room(front: &[u8], back: &[u8]) -> [u8; 64]
     requires { ⌜ length (now front) + length (now back) ≤ 64 ⌝ }
     ensures { λ r. ⌜ r ≡ roomOf sha256 (now (front .entry) ++ now (back .entry)) ⌝ }
 {

@@ -26,7 +26,7 @@ const MAX_NT: usize = Aes128GcmSha256::NT;
 const NKA: usize = Aes128CtrHmacSha256Tag80::NKA;
 
 // Fills ctx with the AES context of a suite's key.
-fn context(ctx: &mut [u64], suite: Suite, key: &[u8])
+pub fn context(ctx: &mut [u64], suite: Suite, key: &[u8])
     requires { ⌜ (length (now ctx) ≡ size) × (length (now key) ≡ Nk suite) ⌝ }
     ensures { λ _. ⌜ Context (cipherKey suite (now (key .entry))) (now (ctx .exit)) ⌝ }
 {

@@ -8,6 +8,7 @@ mod frames;
 mod headers;
 mod judging;
 mod others;
+mod pieces;
 mod places;
 mod stores;
 
@@ -55,20 +56,22 @@ fn main() -> ExitCode {
 fn run(folder: &Path) -> io::Result<()> {
     fs::create_dir_all(folder)?;
     print_method();
-    progress("1 of 6: headers");
+    progress("1 of 7: headers");
     headers::run();
-    progress("2 of 6: frames");
+    progress("2 of 7: frames");
     frames::run(&folder.join("frames.csv"))?;
-    progress("3 of 6: judging the store");
+    progress("3 of 7: judging the store");
     judging::run(&folder.join("judging.csv"))?;
-    progress("4 of 6: places");
+    progress("4 of 7: places");
     places::run(&folder.join("places.csv"))?;
-    progress("5 of 6: an earlier library");
+    progress("5 of 7: pieces");
+    pieces::run(&folder.join("pieces.csv"))?;
+    progress("6 of 7: an earlier library");
     #[cfg(has_earlier)]
     earlier::run(&folder.join("earlier.csv"))?;
     #[cfg(not(has_earlier))]
     println!("\nno earlier library: SFRAME_EARLIER_DIR names no folder of one");
-    progress("6 of 6: other libraries");
+    progress("7 of 7: other libraries");
     others::run(&folder.join("libraries.csv"))?;
     println!("\nthe tables are in {} as CSV files", folder.display());
     Ok(())

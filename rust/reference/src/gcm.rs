@@ -33,10 +33,24 @@ impl Gcm {
         ctr::apply(&self.aes, nonce, DATA_COUNT, data);
     }
 
+    /// As [`apply`](Self::apply), where `data` begins at byte `at` of the whole.
+    pub fn apply_from(&self, nonce: &[u8; NONCE], at: usize, data: &mut [u8]) {
+        ctr::apply_from(&self.aes, nonce, DATA_COUNT, at, data);
+    }
+
     /// The tag of associated data and ciphertext.
     pub fn tag(&self, nonce: &[u8; NONCE], aad: &[u8], ciphertext: &[u8]) -> [u8; TAG] {
+        self.mask(nonce, self.hash_key.hash(aad, ciphertext))
+    }
+
+    /// The tag that a hash gives.
+    pub fn mask(&self, nonce: &[u8; NONCE], hash: u128) -> [u8; TAG] {
         let mask = self.aes.encrypt(&ctr::counter_block(nonce, MASK_COUNT));
-        let hash = self.hash_key.hash(aad, ciphertext);
         (hash ^ u128::from_be_bytes(mask)).to_be_bytes()
+    }
+
+    /// The hash key.
+    pub fn hash_key(&self) -> &HashKey {
+        &self.hash_key
     }
 }

@@ -29,11 +29,18 @@ impl HashKey {
     /// The hash of a string of whole blocks: each part is filled up with zeros
     /// to whole blocks, and the lengths of the two make the last one.
     pub fn hash(&self, aad: &[u8], ciphertext: &[u8]) -> u128 {
-        let lengths = (bits(aad) << 64) | bits(ciphertext);
-        let blocks = padded_blocks(aad).chain(padded_blocks(ciphertext));
-        blocks
-            .chain([lengths])
-            .fold(0, |hash, block| self.multiply(hash ^ block))
+        let hash = self.absorb(self.absorb(0, aad), ciphertext);
+        self.finish(hash, aad.len(), ciphertext.len())
+    }
+
+    /// The hash after the blocks of `bytes`, the last one filled up with zeros.
+    pub fn absorb(&self, hash: u128, bytes: &[u8]) -> u128 {
+        padded_blocks(bytes).fold(hash, |hash, block| self.multiply(hash ^ block))
+    }
+
+    /// The hash after the block of the two lengths.
+    pub fn finish(&self, hash: u128, aad: usize, ciphertext: usize) -> u128 {
+        self.multiply(hash ^ (bits(aad) << 64 | bits(ciphertext)))
     }
 
     /// The hash key times `block`, from the highest powers of `x` down.
@@ -56,8 +63,8 @@ fn padded_blocks(bytes: &[u8]) -> impl Iterator<Item = u128> + '_ {
     })
 }
 
-fn bits(bytes: &[u8]) -> u128 {
-    8 * bytes.len() as u128
+fn bits(bytes: usize) -> u128 {
+    8 * bytes as u128
 }
 
 /// Multiplication by `x` (section 6.3): `x^128` is `1 + x + x^2 + x^7`.

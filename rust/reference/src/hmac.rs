@@ -24,6 +24,19 @@ impl<H: Hash> Hmac<H> {
         }
     }
 
+    /// Goes on under `key` from what the inner hash has taken.
+    pub fn resume(key: &[u8], inner: H) -> Self {
+        Hmac {
+            inner,
+            ..Self::new(key)
+        }
+    }
+
+    /// The inner hash so far.
+    pub fn inner(&self) -> &H {
+        &self.inner
+    }
+
     /// Takes the next bytes of the message.
     pub fn update(&mut self, message: &[u8]) {
         self.inner.update(message);

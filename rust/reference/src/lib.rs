@@ -19,6 +19,7 @@ pub mod hkdf;
 pub mod hmac;
 pub mod log;
 pub mod moq;
+pub mod pieces;
 pub mod ratchet;
 pub mod record;
 pub mod refusal;

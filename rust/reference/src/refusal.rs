@@ -34,6 +34,9 @@ pub enum Refusal {
     AlreadyOpened = 14,
     /// The counter lies 64 or more below the highest that was opened.
     TooOld = 15,
+    /// A piece past the announced length, an end before it, or a running state
+    /// that cannot be.
+    BadState = 16,
     /// Suite 3, whose tags have four bytes, is not for sending.
     SendingBarred = 17,
     /// The bits of the step are not 1 to 16, or the KID is past 64 bits.

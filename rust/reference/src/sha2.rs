@@ -89,6 +89,32 @@ macro_rules! sha2 {
                 }
             }
 
+            /// Goes on from the hash value of whole blocks and the bytes behind
+            /// them, where `taken` bytes were taken in all.
+            pub fn resume(value: &[u8; 8 * Self::WORD], waiting: &[u8], taken: $length) -> Self {
+                let mut hash = $name { state: [0; 8], waiting: [0; Self::BLOCK], taken };
+                assert_eq!(waiting.len(), hash.waiting_length());
+                for (word, bytes) in hash.state.iter_mut().zip(value.chunks_exact(Self::WORD)) {
+                    *word = $word::from_be_bytes(bytes.try_into().unwrap());
+                }
+                hash.waiting[..waiting.len()].copy_from_slice(waiting);
+                hash
+            }
+
+            /// The hash value of the whole blocks so far.
+            pub fn value(&self) -> [u8; 8 * Self::WORD] {
+                let mut value = [0; 8 * Self::WORD];
+                for (bytes, word) in value.chunks_exact_mut(Self::WORD).zip(self.state) {
+                    bytes.copy_from_slice(&word.to_be_bytes());
+                }
+                value
+            }
+
+            /// The bytes behind the whole blocks so far.
+            pub fn waiting(&self) -> &[u8] {
+                &self.waiting[..self.waiting_length()]
+            }
+
             fn waiting_length(&self) -> usize {
                 (self.taken % Self::BLOCK as $length) as usize
             }
@@ -138,11 +164,7 @@ macro_rules! sha2 {
                 self.waiting[length_at..].copy_from_slice(&bits);
                 Self::compress(&mut self.state, &self.waiting);
 
-                let mut digest = [0; 8 * Self::WORD];
-                for (bytes, word) in digest.chunks_exact_mut(Self::WORD).zip(self.state) {
-                    bytes.copy_from_slice(&word.to_be_bytes());
-                }
-                digest
+                self.value()
             }
         }
     };

@@ -8,6 +8,7 @@
 use crate::aead::Aead;
 use crate::group;
 use crate::header::{part, read_header, write_header};
+use crate::pieces::{Kind, Running};
 use crate::record::{Record, State, RECORD};
 use crate::refusal::{Answer, Refusal};
 use crate::suites::{nonce, Suite};
@@ -142,13 +143,7 @@ pub fn seal_at(
     offset: usize,
 ) -> Answer {
     let records = read_store(store)?;
-    let (place, record) = look_up(&records, kid)?;
-    if record.state != State::Sending {
-        return Err(Refusal::WrongRole);
-    }
-    if record.spent {
-        return Err(Refusal::CounterSpent);
-    }
+    let (place, record) = may_seal(&records, kid)?;
     check_sizes(plaintext.len(), metadata)?;
     let header = write_header(kid, record.counter);
     let tag_at = header.len() + plaintext.len();
@@ -168,16 +163,56 @@ pub fn seal_at(
     Ok(length)
 }
 
+/// Begins a frame of `plaintext` bytes: its header goes to the front of `room`, the
+/// running state to that of `state`, and its counter is taken. Refusals: 1, 6, 7,
+/// 8, 9, 12 for the header's room, 12 for the state.
+pub fn seal_begin(
+    store: &mut [u8],
+    kid: u64,
+    metadata: &[u8],
+    plaintext: u64,
+    state: &mut [u8],
+    room: &mut [u8],
+) -> Answer {
+    let records = read_store(store)?;
+    let (place, record) = may_seal(&records, kid)?;
+    let announced = announce(plaintext, metadata)?;
+    let header = write_header(kid, record.counter);
+    let room = part(room, 0, header.len())?;
+    let aad = [&header, metadata].concat();
+    Running::begin(Kind::Sealing, record, record.counter, &aad, announced).put(state)?;
+
+    room.copy_from_slice(&header);
+    write_record(store, place, &Some(record.clone().advanced()));
+    Ok(header.len())
+}
+
+/// Begins to check a frame of `ciphertext` bytes whose header `header` starts
+/// with. It asks for no window and moves none. Refusals: 1, 10, 6, 7, 9, 12 for
+/// the state.
+pub fn check_begin(
+    store: &[u8],
+    header: &[u8],
+    metadata: &[u8],
+    ciphertext: u64,
+    state: &mut [u8],
+) -> Answer {
+    let records = read_store(store)?;
+    let (kid, ctr, length) = read_header(header).ok_or(Refusal::BadHeader)?;
+    let (_, record) = receives(&records, kid)?;
+    let announced = announce(ciphertext, metadata)?;
+    let aad = [&header[..length], metadata].concat();
+    Running::begin(Kind::Checking, record, ctr, &aad, announced).put(state)?;
+    Ok(0)
+}
+
 /// Opens `frame` into the front of `room`; nothing is written before the tag
 /// is verified. Only an opened frame moves the record's window. Refusals: 1, 10,
 /// 6, 7, 11, 9, 12, 14, 15, 13.
 pub fn open(store: &mut [u8], metadata: &[u8], frame: &[u8], room: &mut [u8]) -> Answer {
     let records = read_store(store)?;
     let (kid, ctr, header_length) = read_header(frame).ok_or(Refusal::BadHeader)?;
-    let (place, record) = look_up(&records, kid)?;
-    if record.state != State::Receiving {
-        return Err(Refusal::WrongRole);
-    }
+    let (place, record) = receives(&records, kid)?;
     let (header, rest) = frame.split_at(header_length);
     let length = rest
         .len()
@@ -211,10 +246,7 @@ pub fn open(store: &mut [u8], metadata: &[u8], frame: &[u8], room: &mut [u8]) ->
 /// 6, 7.
 pub fn report(store: &[u8], kid: u64) -> Result<u64, Refusal> {
     let records = read_store(store)?;
-    let (_, record) = look_up(&records, kid)?;
-    if record.state != State::Receiving {
-        return Err(Refusal::WrongRole);
-    }
+    let (_, record) = receives(&records, kid)?;
     Ok(record.window.mask.count_ones().into())
 }
 
@@ -258,6 +290,25 @@ fn look_up(records: &[Option<Record>], kid: u64) -> Result<(usize, &Record), Ref
         .ok_or(Refusal::KidUnknown)
 }
 
+/// The sending record of `kid`, which has a counter left. Refusals: 6, 7, 8.
+fn may_seal(records: &[Option<Record>], kid: u64) -> Result<(usize, &Record), Refusal> {
+    let (place, record) = look_up(records, kid)?;
+    match (record.state, record.spent) {
+        (State::Sending, false) => Ok((place, record)),
+        (State::Sending, true) => Err(Refusal::CounterSpent),
+        _ => Err(Refusal::WrongRole),
+    }
+}
+
+/// The receiving record of `kid`. Refusals: 6, 7.
+fn receives(records: &[Option<Record>], kid: u64) -> Result<(usize, &Record), Refusal> {
+    let (place, record) = look_up(records, kid)?;
+    match record.state {
+        State::Receiving => Ok((place, record)),
+        _ => Err(Refusal::WrongRole),
+    }
+}
+
 /// Writes every record of a store.
 fn write_store(store: &mut [u8], records: &[Option<Record>]) {
     for (place, record) in records.iter().enumerate() {
@@ -269,6 +320,13 @@ fn write_store(store: &mut [u8], records: &[Option<Record>]) {
 fn write_record(store: &mut [u8], place: usize, record: &Option<Record>) {
     let bytes = record.as_ref().map_or([0; RECORD], Record::encode);
     store[place * RECORD..][..RECORD].copy_from_slice(&bytes);
+}
+
+/// The length that a beginning announces. Refusals: 9.
+fn announce(length: u64, metadata: &[u8]) -> Result<usize, Refusal> {
+    let length = usize::try_from(length).map_err(|_| Refusal::TooLong)?;
+    check_sizes(length, metadata)?;
+    Ok(length)
 }
 
 fn check_sizes(plaintext: usize, metadata: &[u8]) -> Result<(), Refusal> {

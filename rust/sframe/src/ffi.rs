@@ -116,6 +116,71 @@ extern "C" {
         length: *mut usize,
     ) -> u32;
 
+    /// Begins a frame that is sealed in pieces: its header goes to the front of
+    /// `out`.
+    pub fn sframe_seal_begin(
+        store: *mut u8,
+        store_len: usize,
+        kid: u64,
+        metadata: *const u8,
+        metadata_len: usize,
+        plaintext_len: u64,
+        state: *mut u8,
+        state_len: usize,
+        out: *mut u8,
+        out_len: usize,
+        length: *mut usize,
+    ) -> u32;
+
+    /// Seals the next piece to the front of `out`.
+    pub fn sframe_seal_piece(
+        state: *mut u8,
+        state_len: usize,
+        piece: *const u8,
+        piece_len: usize,
+        out: *mut u8,
+        out_len: usize,
+        length: *mut usize,
+    ) -> u32;
+
+    /// Ends a frame: its tag goes to the front of `out`.
+    pub fn sframe_seal_end(
+        state: *const u8,
+        state_len: usize,
+        out: *mut u8,
+        out_len: usize,
+        length: *mut usize,
+    ) -> u32;
+
+    /// Begins to check a received frame in pieces.
+    pub fn sframe_check_begin(
+        store: *const u8,
+        store_len: usize,
+        header: *const u8,
+        header_len: usize,
+        metadata: *const u8,
+        metadata_len: usize,
+        ciphertext_len: u64,
+        state: *mut u8,
+        state_len: usize,
+    ) -> u32;
+
+    /// Takes the next piece of a ciphertext.
+    pub fn sframe_check_piece(
+        state: *mut u8,
+        state_len: usize,
+        piece: *const u8,
+        piece_len: usize,
+    ) -> u32;
+
+    /// Ends a check: whether `tag` is the frame's.
+    pub fn sframe_check_end(
+        state: *const u8,
+        state_len: usize,
+        tag: *const u8,
+        tag_len: usize,
+    ) -> u32;
+
     /// How many of the last 64 counters a receiving key has opened.
     pub fn sframe_report(store: *const u8, store_len: usize, kid: u64, count: *mut u64) -> u32;
 

@@ -49,6 +49,7 @@ mod limits;
 mod metadata;
 #[cfg(feature = "alloc")]
 mod owned;
+mod pieces;
 mod ratchet;
 #[allow(unsafe_code)]
 pub mod raw;
@@ -71,6 +72,7 @@ pub use limits::{
 pub use metadata::Metadata;
 #[cfg(feature = "alloc")]
 pub use owned::OwnedStore;
+pub use pieces::{Checking, NotEnded, Sealing, STATE};
 #[cfg(feature = "alloc")]
 pub use ratchet::ratchet_to_vec;
 pub use ratchet::{ratchet, ratchet_kid};

@@ -8,11 +8,13 @@
 
 mod group;
 mod header;
+mod pieces;
 mod ratchet;
 mod store;
 
 pub use group::{group_kid, group_parts, GroupKid, Parts};
 pub use header::{read_header, write_header, write_header_at, Read};
+pub use pieces::{check_begin, check_end, check_piece, seal_begin, seal_end, seal_piece};
 pub use ratchet::{ratchet, ratchet_kid, RatchetKid};
 pub use store::{
     add_receiving, add_sending, change_epoch, find, make, open, open_near, remove, remove_near,

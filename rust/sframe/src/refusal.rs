@@ -34,7 +34,7 @@ pub enum Refusal {
     StoreFull = 5,
     /// The store has no record of the key number.
     KidUnknown = 6,
-    /// The record is not for this: sealing needs a sending one, opening and the
+    /// The record is not for this: sealing needs a sending one, opening, checking and the
     /// report a receiving one, and a retired one cannot be removed.
     WrongRole = 7,
     /// The key has sealed with its last counter, 2^64 - 1.
@@ -43,7 +43,8 @@ pub enum Refusal {
     TooLong = 9,
     /// The header is cut short.
     BadHeader = 10,
-    /// Behind the header the frame is shorter than a tag.
+    /// Behind the header the frame is shorter than a tag; at the end of a check,
+    /// the tag is not just as long as the suite's.
     FrameShort = 11,
     /// The result needs a longer room than the one that was lent.
     RoomShort = 12,
@@ -55,6 +56,10 @@ pub enum Refusal {
     /// The counter lies 64 or more below the highest that was opened, so that
     /// nobody knows any more whether it was opened before.
     TooOld = 15,
+    /// The piece goes past the announced length, the end comes before it, or the
+    /// running state is not one of this kind of line. The last is an answer of
+    /// [`raw`](crate::raw) calls alone.
+    BadState = 16,
     /// The suite's tags have 4 bytes, and no new key of it is for sending; a
     /// sending one that a store already has goes on.
     SendingBarred = 17,
@@ -75,7 +80,7 @@ use Refusal::*;
 
 impl Refusal {
     /// Every refusal, by rising number.
-    pub const ALL: [Refusal; 20] = [
+    pub const ALL: [Refusal; 21] = [
         StoreNotSound,
         NoSuchSuite,
         BaseKeyLength,
@@ -91,6 +96,7 @@ impl Refusal {
         TagDiffers,
         AlreadyOpened,
         TooOld,
+        BadState,
         SendingBarred,
         BadRatchetKid,
         TooManySteps,
@@ -142,6 +148,7 @@ impl fmt::Display for Refusal {
             TagDiffers => "the tag does not match",
             AlreadyOpened => "a frame with this counter was opened before",
             TooOld => "the counter lies 64 or more below the highest that was opened",
+            BadState => "the pieces are more or fewer than was announced",
             SendingBarred => "no key is added for sending with suite 3: its tags have 4 bytes",
             BadRatchetKid => "a step has 1 to 16 bits, and the key number must fit in 64",
             TooManySteps => "a key is walked at most 64 steps at once",

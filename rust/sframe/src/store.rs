@@ -228,6 +228,11 @@ impl<'a> Store<'a> {
         Refusal::check(raw::change_epoch(self.0, epoch.width, epoch.bits), ())
     }
 
+    /// The store's bytes.
+    pub(crate) fn bytes(&mut self) -> &mut [u8] {
+        self.0
+    }
+
     /// As [`StoreView::find`].
     pub fn find(&self, kid: Kid) -> Result<Place, Refusal> {
         self.view().find(kid)

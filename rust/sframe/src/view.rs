@@ -35,6 +35,11 @@ impl<'a> StoreView<'a> {
         StoreView(bytes)
     }
 
+    /// The store's bytes.
+    pub(crate) fn bytes(self) -> &'a [u8] {
+        self.0
+    }
+
     /// Where the record of `kid` stands, be it a retired one.
     ///
     /// Refusals, the first that holds: [`StoreNotSound`](Refusal::StoreNotSound),

@@ -3,10 +3,10 @@
  * Makes the calls that arrive on standard input and answers on standard output, so that a library built for another
  * processor can be compared from outside. src/layer.rs is the other end. Numbers are little-endian.
  *
- *     call     1 byte, which one; 5 numbers of 8 bytes; 4 lengths of 8 bytes; then so many bytes of each of
- *              store, first, second and room
+ *     call     1 byte, which one; 5 numbers of 8 bytes; 5 lengths of 8 bytes; then so many bytes of each of
+ *              store, first, second, room and running state
  *     answer   4 bytes, the call's number; 8 numbers of 8 bytes: length, KID, CTR, count, place, context, index, epoch; then
- *              store and room
+ *              store, room and running state
  *
  * Ends with status 0 where the input ends between two calls, and says on standard error how many there were.
  */
@@ -19,8 +19,8 @@
 
 /* Margins around what is lent, which a call must leave alone. The first is odd, so that what is lent starts at no even
  * address. */
-enum { MARGIN = 13, PATTERN = 0xa5, STRINGS = 4, NUMBERS = 5 };
-enum { STORE, FIRST, SECOND, ROOM };
+enum { MARGIN = 13, PATTERN = 0xa5, STRINGS = 5, NUMBERS = 5 };
+enum { STORE, FIRST, SECOND, ROOM, STATE };
 
 /* More than any string of the comparison. */
 static const uint64_t MOST = 1 << 20;
@@ -169,6 +169,24 @@ static struct answer make(int which, struct call *c)
     case 19:
         a.number = sframe_change_epoch(b[STORE], l[STORE], n[0], n[1]);
         break;
+    case 20:
+        a.number = sframe_seal_begin(b[STORE], l[STORE], n[0], b[FIRST], l[FIRST], n[1], b[STATE], l[STATE], b[ROOM], l[ROOM], &a.length);
+        break;
+    case 21:
+        a.number = sframe_seal_piece(b[STATE], l[STATE], b[FIRST], l[FIRST], b[ROOM], l[ROOM], &a.length);
+        break;
+    case 22:
+        a.number = sframe_seal_end(b[STATE], l[STATE], b[ROOM], l[ROOM], &a.length);
+        break;
+    case 23:
+        a.number = sframe_check_begin(b[STORE], l[STORE], b[FIRST], l[FIRST], b[SECOND], l[SECOND], n[0], b[STATE], l[STATE]);
+        break;
+    case 24:
+        a.number = sframe_check_piece(b[STATE], l[STATE], b[FIRST], l[FIRST]);
+        break;
+    case 25:
+        a.number = sframe_check_end(b[STATE], l[STATE], b[FIRST], l[FIRST]);
+        break;
     default:
         stop("there is no such call");
     }
@@ -208,6 +226,7 @@ int main(void)
         give_number(a.epoch, 8);
         give(c.lent[STORE], c.length[STORE]);
         give(c.lent[ROOM], c.length[ROOM]);
+        give(c.lent[STATE], c.length[STATE]);
         if (fflush(stdout) != 0) {
             stop("standard output failed");
         }

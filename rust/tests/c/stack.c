@@ -21,6 +21,7 @@ static uint8_t stack[STACK];
 static uint8_t sending[SFRAME_STORE_SIZE(RECORDS)], receiving[SFRAME_STORE_SIZE(RECORDS)];
 static uint8_t plaintext[SFRAME_MAX_PLAINTEXT], metadata[SFRAME_MAX_METADATA], opened[SFRAME_MAX_PLAINTEXT];
 static uint8_t frame[SFRAME_FRAME_ROOM(SFRAME_MAX_PLAINTEXT)], key[SFRAME_MAX_BASE_KEY];
+static struct sframe_state state;
 static size_t frame_len, length, place;
 static uint64_t suite, kid, ctr, count, context, member, epoch;
 static uint32_t answer;
@@ -58,6 +59,30 @@ static void open_near(void)
 {
     answer = sframe_open_near(receiving, sizeof receiving, 1, frame, frame_len, metadata, sizeof metadata, opened, sizeof opened, &length);
 }
+
+/* A line of one piece, which is as long as can be. */
+static void seal_begin(void)
+{
+    answer = sframe_seal_begin(sending, sizeof sending, RECORDS, metadata, sizeof metadata, sizeof plaintext, state.bytes, sizeof state.bytes, frame, sizeof frame, &frame_len);
+}
+
+static void seal_piece(void)
+{
+    answer = sframe_seal_piece(state.bytes, sizeof state.bytes, plaintext, sizeof plaintext, frame + frame_len, sizeof frame - frame_len, &length);
+}
+
+static void seal_end(void)
+{
+    answer = sframe_seal_end(state.bytes, sizeof state.bytes, frame + frame_len + length, SFRAME_MAX_TAG, &length);
+}
+
+static void check_begin(void)
+{
+    answer = sframe_check_begin(receiving, sizeof receiving, frame, frame_len, metadata, sizeof metadata, sizeof plaintext, state.bytes, sizeof state.bytes);
+}
+
+static void check_piece(void) { answer = sframe_check_piece(state.bytes, sizeof state.bytes, frame + frame_len, sizeof plaintext); }
+static void check_end(void) { answer = sframe_check_end(state.bytes, sizeof state.bytes, frame + frame_len + sizeof plaintext, length); }
 
 static void find(void) { answer = sframe_find(receiving, sizeof receiving, RECORDS, &place); }
 static void report(void) { answer = sframe_report(receiving, sizeof receiving, RECORDS, &count); }
@@ -105,6 +130,12 @@ static const struct {
     { "sframe_open", open_frame },
     { "sframe_seal_near", seal_near },
     { "sframe_open_near", open_near },
+    { "sframe_seal_begin", seal_begin },
+    { "sframe_seal_piece", seal_piece },
+    { "sframe_seal_end", seal_end },
+    { "sframe_check_begin", check_begin },
+    { "sframe_check_piece", check_piece },
+    { "sframe_check_end", check_end },
     { "sframe_find", find },
     { "sframe_report", report },
     { "sframe_remove", remove_key },

@@ -32,14 +32,20 @@ enum Which {
     GroupKid,
     GroupParts,
     ChangeEpoch,
+    SealBegin,
+    SealPiece,
+    SealEnd,
+    CheckBegin,
+    CheckPiece,
+    CheckEnd,
 }
 
 /// The most numbers that a call is given.
 const NUMBERS: usize = 5;
-/// The bytes that a driver answers before store and room.
+/// The bytes that a driver answers before store, room and running state.
 const HEAD: usize = 4 + 8 * 8;
 
-/// What a driver answers beside store and room.
+/// What a driver answers beside those.
 struct Answer {
     number: u32,
     length: usize,
@@ -93,11 +99,11 @@ impl Driver {
         which: Which,
         numbers: &[u64],
         store: &mut [u8],
-        first: &[u8],
-        second: &[u8],
+        [first, second]: [&[u8]; 2],
         room: &mut [u8],
+        state: &mut [u8],
     ) -> Answer {
-        let strings: [&[u8]; 4] = [store, first, second, room];
+        let strings: [&[u8]; 5] = [store, first, second, room, state];
         let mut call = vec![which as u8];
         for place in 0..NUMBERS {
             let number = numbers.get(place).copied().unwrap_or(0);
@@ -115,6 +121,7 @@ impl Driver {
         read(&mut head);
         read(store);
         read(room);
+        read(state);
         let number = |at: usize| u64::from_le_bytes(head[at..at + 8].try_into().unwrap());
         Answer {
             number: u32::from_le_bytes(head[..4].try_into().unwrap()),
@@ -150,10 +157,21 @@ fn driven(
     strings: [&[u8]; 2],
     room: &mut [u8],
 ) -> Option<Answer> {
-    let [first, second] = strings;
+    driven_on(which, numbers, store, strings, room, &mut [])
+}
+
+/// The same of a call with a running state.
+fn driven_on(
+    which: Which,
+    numbers: &[u64],
+    store: &mut [u8],
+    strings: [&[u8]; 2],
+    room: &mut [u8],
+    state: &mut [u8],
+) -> Option<Answer> {
     DRIVER.with_borrow_mut(|driver| {
         let driver = driver.as_mut()?;
-        Some(driver.call(which, numbers, store, first, second, room))
+        Some(driver.call(which, numbers, store, strings, room, state))
     })
 }
 
@@ -277,6 +295,67 @@ pub fn open_near(
     match driven(Which::OpenNear, numbers, store, [frame, metadata], room) {
         Some(answer) => answer.written(),
         None => raw::open_near(store, place, frame, metadata, room),
+    }
+}
+
+pub fn seal_begin(
+    store: &mut [u8],
+    kid: u64,
+    metadata: &[u8],
+    plaintext_len: u64,
+    state: &mut [u8],
+    room: &mut [u8],
+) -> Written {
+    let (numbers, strings) = (&[kid, plaintext_len], [metadata, &[]]);
+    match driven_on(Which::SealBegin, numbers, store, strings, room, state) {
+        Some(answer) => answer.written(),
+        None => raw::seal_begin(store, kid, metadata, plaintext_len, state, room),
+    }
+}
+
+pub fn seal_piece(state: &mut [u8], piece: &[u8], room: &mut [u8]) -> Written {
+    let strings = [piece, &[]];
+    match driven_on(Which::SealPiece, &[], &mut [], strings, room, state) {
+        Some(answer) => answer.written(),
+        None => raw::seal_piece(state, piece, room),
+    }
+}
+
+/// The state that the driver's call left is compared too, here and below.
+pub fn seal_end(state: &mut [u8], room: &mut [u8]) -> Written {
+    match driven_on(Which::SealEnd, &[], &mut [], [&[]; 2], room, state) {
+        Some(answer) => answer.written(),
+        None => raw::seal_end(state, room),
+    }
+}
+
+pub fn check_begin(
+    store: &mut [u8],
+    header: &[u8],
+    metadata: &[u8],
+    ciphertext_len: u64,
+    state: &mut [u8],
+) -> u32 {
+    let (numbers, strings) = (&[ciphertext_len], [header, metadata]);
+    match driven_on(Which::CheckBegin, numbers, store, strings, &mut [], state) {
+        Some(answer) => answer.number,
+        None => raw::check_begin(store, header, metadata, ciphertext_len, state),
+    }
+}
+
+pub fn check_piece(state: &mut [u8], piece: &[u8]) -> u32 {
+    let strings = [piece, &[]];
+    match driven_on(Which::CheckPiece, &[], &mut [], strings, &mut [], state) {
+        Some(answer) => answer.number,
+        None => raw::check_piece(state, piece),
+    }
+}
+
+pub fn check_end(state: &mut [u8], tag: &[u8]) -> u32 {
+    let strings = [tag, &[]];
+    match driven_on(Which::CheckEnd, &[], &mut [], strings, &mut [], state) {
+        Some(answer) => answer.number,
+        None => raw::check_end(state, tag),
     }
 }
 

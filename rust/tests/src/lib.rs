@@ -9,12 +9,14 @@ mod group;
 mod header;
 mod layer;
 mod lent;
+mod pieces;
 mod ratchet;
 mod stores;
 
 pub use call::{compare, compare_near, Call, Outcome};
 pub use group::{compare_group_kid, compare_group_parts};
 pub use header::{compare_read_header, compare_write_header, compare_write_header_at, forms};
+pub use pieces::{compare_line, go_on, LineCall, LineOutcome};
 pub use ratchet::{compare_kid, compare_walk};
 pub use stores::{
     after, done, frame, frame_with, made, retire, set_counter, set_window, spend, window, with_key,
@@ -45,6 +47,7 @@ pub mod number {
     pub const TAG_DIFFERS: u32 = 13;
     pub const ALREADY_OPENED: u32 = 14;
     pub const TOO_OLD: u32 = 15;
+    pub const BAD_STATE: u32 = 16;
     pub const SENDING_BARRED: u32 = 17;
     pub const BAD_RATCHET_KID: u32 = 20;
     pub const TOO_MANY_STEPS: u32 = 21;

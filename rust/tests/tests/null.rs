@@ -5,7 +5,7 @@ use comparison::number::*;
 use comparison::{frame, made, with_key, Key};
 use reference::suites::SUITES;
 use sframe::ffi::*;
-use sframe::Role;
+use sframe::{Role, STATE};
 use std::ptr::{null, null_mut};
 
 #[test]
@@ -140,5 +140,66 @@ fn metadata_plaintext_and_room() {
             )
         };
         assert_eq!((number, length), (DONE, 0));
+    }
+}
+
+#[test]
+fn pieces() {
+    let mut length = 1;
+    // SAFETY: a length of 0 lends no byte, and `length` is a local.
+    let numbers = unsafe {
+        let (begin, piece, end) = (sframe_seal_begin, sframe_seal_piece, sframe_seal_end);
+        let (no, none) = (null_mut(), null());
+        [
+            begin(no, 0, 1, none, 0, 0, no, 0, no, 0, &mut length),
+            piece(no, 0, none, 0, no, 0, &mut length),
+            end(none, 0, no, 0, &mut length),
+            sframe_check_begin(none, 0, none, 0, none, 0, 0, no, 0),
+            sframe_check_piece(no, 0, none, 0),
+            sframe_check_end(none, 0, none, 0),
+        ]
+    };
+    let refused = [STORE_NOT_SOUND, BAD_STATE, BAD_STATE];
+    assert_eq!(numbers, [refused, refused].concat()[..]);
+    assert_eq!(length, 0);
+
+    for suite in SUITES {
+        let key = Key::any(suite, 1);
+        let expected = frame(&key, 0, b"", b"");
+        let mut store = with_key(&made(1), Role::Sending, &key);
+        let (mut state, mut room) = ([0; STATE], [0; 32]);
+        let (header, tag) = expected.split_at(1);
+        // SAFETY: store, state, room and tag are live, apart, and of the lengths
+        // given; a length of 0 lends no byte; `length` is a local.
+        unsafe {
+            let (bytes, line, out) = (store.as_mut_ptr(), state.as_mut_ptr(), room.as_mut_ptr());
+            let begin = |state, size, out, room, length| {
+                sframe_seal_begin(bytes, 96, 1, null(), 0, 0, state, size, out, room, length)
+            };
+            assert_eq!(begin(line, STATE, null_mut(), 0, &mut length), ROOM_SHORT);
+            assert_eq!(begin(null_mut(), 0, out, 32, &mut length), ROOM_SHORT);
+            assert_eq!(begin(line, STATE, out, 32, &mut length), DONE);
+            assert_eq!((length, &room[..1]), (1, header));
+            let piece = sframe_seal_piece(line, STATE, null(), 0, null_mut(), 0, &mut length);
+            assert_eq!((piece, length), (DONE, 0));
+            let end = sframe_seal_end(line, STATE, null_mut(), 0, &mut length);
+            assert_eq!((end, length), (ROOM_SHORT, 0));
+        }
+        let store = with_key(&made(1), Role::Receiving, &key);
+        // SAFETY: as above.
+        unsafe {
+            let (bytes, line) = (store.as_ptr(), state.as_mut_ptr());
+            let (front, size) = (expected.as_ptr(), expected.len());
+            let none = sframe_check_begin(bytes, 96, null(), 0, null(), 0, 0, line, STATE);
+            assert_eq!(none, BAD_HEADER);
+            let short = sframe_check_begin(bytes, 96, front, size, null(), 0, 0, null_mut(), 0);
+            assert_eq!(short, ROOM_SHORT);
+            let begun = sframe_check_begin(bytes, 96, front, size, null(), 0, 0, line, STATE);
+            assert_eq!(begun, DONE);
+            assert_eq!(sframe_check_piece(line, STATE, null(), 0), DONE);
+            assert_eq!(sframe_check_end(line, STATE, null(), 0), FRAME_SHORT);
+            let end = sframe_check_end(line, STATE, tag.as_ptr(), tag.len());
+            assert_eq!(end, DONE);
+        }
     }
 }

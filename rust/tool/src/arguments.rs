@@ -3,6 +3,7 @@
 
 use crate::failure::Failure;
 use crate::help::TOOL;
+use crate::pieces::{Check, SealPieces};
 use sframe::{Ctr, EpochBits, GroupParts, GroupWidths, Kid, Role};
 use std::ffi::OsString;
 use std::path::PathBuf;
@@ -57,6 +58,8 @@ pub enum Command {
         streams: Streams,
         wait: Wait,
     },
+    SealPieces(SealPieces),
+    Check(Check),
     Report {
         store: PathBuf,
         kid: Kid,
@@ -156,6 +159,11 @@ impl Command {
                 streams: streams(&mut words)?,
                 wait: words.wait()?,
             },
+            "seal-pieces" => {
+                let log = log(&mut words)?;
+                Command::SealPieces(SealPieces::parse(&mut words, log)?)
+            }
+            "check" => Command::Check(Check::parse(&mut words)?),
             "report" => Command::Report {
                 store: words.store()?,
                 kid: Kid(words.number("--kid")?),

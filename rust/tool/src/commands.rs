@@ -18,6 +18,7 @@ use toolkit::console::{give, Console};
 use toolkit::disk::Disk;
 use toolkit::fault::Fault;
 use toolkit::output::{Content, Output, Slot, Spared};
+use toolkit::place::Place;
 use toolkit::store_file::{StoreFile, Wait};
 use toolkit::{hex, key, pages};
 
@@ -83,6 +84,8 @@ pub fn run(command: Command, disk: &mut impl Disk, out: &mut impl Console) -> Re
             streams,
             wait,
         } => open(disk, &store, &streams, wait, out),
+        Command::SealPieces(command) => command.run(disk, out),
+        Command::Check(command) => command.run(disk, out),
         Command::Report { store, kid } => {
             let bytes = read_store(disk, &store)?;
             let count = StoreView::over(&bytes).report(kid);
@@ -141,7 +144,7 @@ pub fn run(command: Command, disk: &mut impl Disk, out: &mut impl Console) -> Re
     }
 }
 
-fn print(out: &mut impl Console, text: &str) -> Result<(), Failure> {
+pub fn print(out: &mut impl Console, text: &str) -> Result<(), Failure> {
     Ok(give(out, text.as_bytes())?)
 }
 
@@ -194,7 +197,7 @@ fn make(disk: &mut impl Disk, path: &Path, keys: u64, wait: Wait) -> Result<(), 
 }
 
 /// The bytes of a sound store.
-fn read_store(disk: &mut impl Disk, path: &Path) -> Result<Vec<u8>, Failure> {
+pub fn read_store(disk: &mut impl Disk, path: &Path) -> Result<Vec<u8>, Failure> {
     let bytes = StoreFile::at(path)?.read(disk, MAX_STORE)?;
     judge(&bytes)?;
     Ok(bytes)
@@ -219,7 +222,7 @@ fn change<T>(
 
 /// Likewise. Once the store is locked, and before anything is changed, `ready`
 /// is called.
-fn change_for<D: Disk, T>(
+pub fn change_for<D: Disk, T>(
     disk: &mut D,
     path: &Path,
     wait: Wait,
@@ -235,7 +238,7 @@ fn change_for<D: Disk, T>(
 }
 
 /// A refusal, with what the store tells of its cause.
-fn explained(refusal: Refusal, store: &[u8], kid: Option<Kid>) -> Failure {
+pub fn explained(refusal: Refusal, store: &[u8], kid: Option<Kid>) -> Failure {
     let records = StoreView::over(store).records().unwrap_or_default();
     let state = kid.and_then(|kid| records.iter().find(|record| record.kid == kid));
     let text = match (refusal, kid, state.map(|record| record.state)) {
@@ -336,7 +339,7 @@ impl Sealing<'_> {
         out: &mut impl Console,
     ) -> Result<(), Failure> {
         let plaintext = self.streams.input.read(MAX_PLAINTEXT)?;
-        let metadata = read_metadata(self.streams)?;
+        let metadata = read_metadata(&self.streams.metadata)?;
         let content = match self.streams.hex {
             true => Content::Text,
             false => Content::Binary,
@@ -404,7 +407,7 @@ fn open<D: Disk>(
     out: &mut impl Console,
 ) -> Result<(), Failure> {
     let frame = streams.input.read_as(streams.hex, MAX_FRAME)?;
-    let metadata = read_metadata(streams)?;
+    let metadata = read_metadata(&streams.metadata)?;
     let kid = read_header(&frame).ok().map(|header| header.kid);
     let files = [("the store itself", path)];
     let spared = spared(&files);
@@ -424,7 +427,7 @@ fn open<D: Disk>(
 }
 
 /// The files that no result takes the place of.
-fn spared<'a>(files: &'a [(&'a str, &'a Path)]) -> Spared<'a> {
+pub fn spared<'a>(files: &'a [(&'a str, &'a Path)]) -> Spared<'a> {
     Spared {
         files,
         is_store: |bytes| StoreView::over(bytes).check().is_ok(),
@@ -443,8 +446,8 @@ fn walk(suite: u64, base_key: &[u8], steps: u64) -> Result<Vec<u8>, Failure> {
     }
 }
 
-fn read_metadata(streams: &Streams) -> Result<Vec<u8>, Failure> {
-    match &streams.metadata {
+pub fn read_metadata(metadata: &Option<Place>) -> Result<Vec<u8>, Failure> {
+    match metadata {
         Some(place) => Ok(place.read(MAX_METADATA)?),
         None => Ok(vec![]),
     }

@@ -129,6 +129,39 @@ is before the plaintext is given out.",
             ],
         },
         Spec {
+            name: "seal-pieces",
+            summary: "seals a plaintext that is never in memory as a whole",
+            forms: &[
+                "STORE --kid K --out FILE [--force] [--in FILE] [--length N] [--metadata FILE] [--log LOG] [--wait SECONDS]",
+            ],
+            text: "\
+Seals a plaintext of N bytes piece by piece as it is read; without --length it has \
+the size of the input file. The frame is the one that seal makes. The counter is \
+used, and logged, before anything is read. An input that ends early or runs over is \
+refused (16), leaves no output, and has used the counter.",
+            options: &[
+                ("--kid", NUMBER),
+                ("--out", File),
+                ("--force", Nothing),
+                ("--in", File),
+                ("--length", NUMBER),
+                ("--metadata", File),
+                ("--log", File),
+                ("--wait", NUMBER),
+            ],
+        },
+        Spec {
+            name: "check",
+            summary: "checks whether a frame is genuine",
+            forms: &["STORE [--in FILE] [--length N] [--metadata FILE]"],
+            text: "\
+Checks piece by piece whether a frame is genuine, and shows nothing of the \
+plaintext. N is its length between header and tag; without --length it follows from \
+the size of the input file. It does not ask whether the frame was opened before, and \
+changes no store.",
+            options: &[("--in", File), ("--length", NUMBER), ("--metadata", File)],
+        },
+        Spec {
             name: "report",
             summary: "counts what a key has opened",
             forms: &["STORE --kid K"],
@@ -244,7 +277,7 @@ before the frame under the old one is given out. It keeps its owner and mode; \
 where that cannot be, as with another user's store, it is not changed. Nor is one \
 that is read-only or has several hard links.
 
-STORE.lock keeps two runs from changing one store at the same time; list and \
+STORE.lock keeps two runs from changing one store at the same time; list, check and \
 report change nothing and take no lock. A run that waits for it says so after a \
 second, and with --wait ends after so many. That file stays: do not remove it \
 while a run may use the store. No store may be named like STORE.lock or \
@@ -260,7 +293,7 @@ is refused (1): make a new one, and give it new keys.",
         (
             "Exit status",
             "\
-0 done; 1 to 15, 17 and 20 to 23 refused, with these causes:
+0 done; 1 to 17 and 20 to 23 refused, with these causes:
   1  the store is not sound, or not      9  plaintext above 32768 bytes, or
      1 to 1024 keys in making               metadata above 1024
   2  no such suite                      10  header cut short
@@ -270,7 +303,9 @@ is refused (1): make a new one, and give it new keys.",
   6  key number not in the store        14  opened before
   7  role does not allow it             15  64 counters or more too old
   8  the key has no counter left        20  not 1 to 16 bits of a step, or a
- 17  suite 3 is not for sending             key number past 64 bits
+ 16  input shorter or longer than           key number past 64 bits
+     was announced
+ 17  suite 3 is not for sending
  21  more than 64 steps                 23  widths above 64 together, or a
  22  index or epoch bits past their         key number past 64 bits
      width

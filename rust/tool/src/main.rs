@@ -9,6 +9,7 @@ mod fingerprint;
 mod help;
 mod listing;
 mod log_file;
+mod pieces;
 #[cfg(test)]
 mod tests;
 

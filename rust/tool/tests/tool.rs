@@ -7,6 +7,7 @@ mod tool {
     mod keys;
     mod outputs;
     mod pages;
+    mod pieces;
     mod refusals;
     mod runs;
     mod stores;

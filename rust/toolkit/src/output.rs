@@ -94,6 +94,25 @@ impl Output {
         slot.keep(disk, written)
     }
 
+    /// As [`write`](Self::write), for a result that comes part by part and is never
+    /// held as a whole. It goes to a file, since what a stream was given cannot be
+    /// taken back.
+    pub fn fill<D: Disk, E: From<Fault>>(
+        &self,
+        disk: &mut D,
+        out: &impl Console,
+        spared: &Spared,
+        fill: impl FnOnce(&mut D, &mut Slot<D::File>) -> Result<(), E>,
+    ) -> Result<(), E> {
+        let mut slot = self.look(disk, out, Content::Binary, spared)?;
+        if !matches!(slot.plan, Plan::File { .. }) {
+            let text = "--out must be a file, and no stream, device or pipe";
+            return Err(Fault::usage(text).into());
+        }
+        let written = fill(disk, &mut slot).and_then(|()| Ok(slot.settle(disk)?));
+        slot.keep(disk, written)
+    }
+
     fn look<D: Disk>(
         &self,
         disk: &mut D,
@@ -171,7 +190,7 @@ impl<F> Slot<'_, F> {
     }
 
     /// Puts bytes behind those that were put there.
-    fn put(&mut self, disk: &mut impl Disk<File = F>, bytes: &[u8]) -> Result<(), Fault> {
+    pub fn put(&mut self, disk: &mut impl Disk<File = F>, bytes: &[u8]) -> Result<(), Fault> {
         self.make_ready(disk)?;
         let Place::File(named) = &self.output.place else {
             return Ok(());

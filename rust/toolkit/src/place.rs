@@ -56,6 +56,27 @@ impl Place {
         }
     }
 
+    /// For reading it piece by piece.
+    pub fn open(&self) -> Result<Box<dyn BufRead>, Fault> {
+        self.source().map_err(self.failed())
+    }
+
+    /// The length of a regular file; a stream, a pipe or a device has none yet.
+    pub fn size(&self) -> Result<Option<u64>, Fault> {
+        match self {
+            Place::Standard => Ok(None),
+            Place::File(path) => {
+                let metadata = path.metadata().map_err(self.failed())?;
+                Ok(metadata.is_file().then_some(metadata.len()))
+            }
+        }
+    }
+
+    /// For `map_err`: reading it failed.
+    pub fn failed(&self) -> impl FnOnce(io::Error) -> Fault + '_ {
+        |error| Fault::io(self.name(), error)
+    }
+
     fn source(&self) -> io::Result<Box<dyn BufRead>> {
         match self {
             Place::Standard => Ok(Box::new(io::stdin().lock())),

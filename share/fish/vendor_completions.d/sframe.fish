@@ -45,6 +45,21 @@ complete -c sframe -n '__fish_seen_subcommand_from open' -l metadata -r -F
 complete -c sframe -n '__fish_seen_subcommand_from open' -l hex
 complete -c sframe -n '__fish_seen_subcommand_from open' -l wait -x
 complete -c sframe -n '__fish_seen_subcommand_from open' -F
+complete -c sframe -n __fish_use_subcommand -a seal-pieces -d 'seals a plaintext that is never in memory as a whole'
+complete -c sframe -n '__fish_seen_subcommand_from seal-pieces' -l kid -x
+complete -c sframe -n '__fish_seen_subcommand_from seal-pieces' -l out -r -F
+complete -c sframe -n '__fish_seen_subcommand_from seal-pieces' -l force
+complete -c sframe -n '__fish_seen_subcommand_from seal-pieces' -l in -r -F
+complete -c sframe -n '__fish_seen_subcommand_from seal-pieces' -l length -x
+complete -c sframe -n '__fish_seen_subcommand_from seal-pieces' -l metadata -r -F
+complete -c sframe -n '__fish_seen_subcommand_from seal-pieces' -l log -r -F
+complete -c sframe -n '__fish_seen_subcommand_from seal-pieces' -l wait -x
+complete -c sframe -n '__fish_seen_subcommand_from seal-pieces' -F
+complete -c sframe -n __fish_use_subcommand -a check -d 'checks whether a frame is genuine'
+complete -c sframe -n '__fish_seen_subcommand_from check' -l in -r -F
+complete -c sframe -n '__fish_seen_subcommand_from check' -l length -x
+complete -c sframe -n '__fish_seen_subcommand_from check' -l metadata -r -F
+complete -c sframe -n '__fish_seen_subcommand_from check' -F
 complete -c sframe -n __fish_use_subcommand -a report -d 'counts what a key has opened'
 complete -c sframe -n '__fish_seen_subcommand_from report' -l kid -x
 complete -c sframe -n '__fish_seen_subcommand_from report' -F

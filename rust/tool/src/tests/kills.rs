@@ -8,6 +8,7 @@ use crate::arguments::{Command, Streams};
 use crate::commands;
 use crate::failure::Failure;
 use sframe::{read_header, Ctr, Kid, Refusal, Role, StoreView, MAX_RECORDS, RECORD};
+use std::ffi::OsString;
 use std::fs;
 use std::path::{Path, PathBuf};
 use toolkit::disk::{Disk, RealDisk, PRIVATE};
@@ -132,6 +133,14 @@ impl Setup {
             streams.output = Output::new(Some(Place::File(path.into())), force);
         }
         command
+    }
+
+    /// Seals into a file, in pieces.
+    fn seal_pieces_to(&self, path: &Path) -> Command {
+        let (store, picture) = (self.store(), self.folder.join("picture"));
+        let words = ["seal-pieces", "--kid", "200", "--in"].map(OsString::from);
+        let paths = [picture.into(), "--out".into(), path.into(), store.into()];
+        Command::parse(words.into_iter().chain(paths)).unwrap()
     }
 
     fn open(&self, number: usize) -> Command {
@@ -449,26 +458,31 @@ fn making_stopped_at_every_step() {
 fn results_stopped_at_every_step() {
     let setup = Setup::new("result");
     let frame = setup.folder.join("frame");
-    let mut whole = 0;
-    for step in 0.. {
-        let mut disk = setup.disk.stopping_at(step);
-        let done = setup.run(&mut disk, setup.seal_to(&frame, false)).is_ok();
-        for (names, contents) in RESTARTS {
-            let mut disk = disk.restarted(names, contents);
-            match disk.read(&frame, 1_000) {
-                Ok(bytes) => {
-                    assert_eq!(bytes.len(), 2 + 9 + 16, "stopped at {step}");
-                    assert!(setup.next(&disk) > read_header(&bytes).unwrap().ctr.0);
-                    whole += 1;
+    let whole = || setup.seal_to(&frame, false);
+    let pieces = || setup.seal_pieces_to(&frame);
+    let commands: [&dyn Fn() -> Command; 2] = [&whole, &pieces];
+    for command in commands {
+        let mut whole = 0;
+        for step in 0.. {
+            let mut disk = setup.disk.stopping_at(step);
+            let done = setup.run(&mut disk, command()).is_ok();
+            for (names, contents) in RESTARTS {
+                let mut disk = disk.restarted(names, contents);
+                match disk.read(&frame, 1_000) {
+                    Ok(bytes) => {
+                        assert_eq!(bytes.len(), 2 + 9 + 16, "stopped at {step}");
+                        assert!(setup.next(&disk) > read_header(&bytes).unwrap().ctr.0);
+                        whole += 1;
+                    }
+                    Err(_) => assert!(!done, "stopped at {step}"),
                 }
-                Err(_) => assert!(!done, "stopped at {step}"),
+            }
+            if done {
+                break;
             }
         }
-        if done {
-            break;
-        }
+        assert!(whole > 4);
     }
-    assert!(whole > 4);
 }
 
 /// A step that fails leaves the earlier file, and nothing beside it.

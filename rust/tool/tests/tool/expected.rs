@@ -5,7 +5,7 @@ use super::folder::{done, Folder};
 use std::io;
 use std::process::{Command, Stdio};
 
-const COMMANDS: [&str; 15] = [
+const COMMANDS: [&str; 17] = [
     "keygen",
     "make",
     "add",
@@ -13,6 +13,8 @@ const COMMANDS: [&str; 15] = [
     "list",
     "seal",
     "open",
+    "seal-pieces",
+    "check",
     "report",
     "header",
     "ratchet",

@@ -50,7 +50,7 @@ fn offered(folder: &Folder, words: &str) -> Vec<String> {
 fn completions_in_bash() {
     let folder = Folder::with_stores("completions", 4);
     for (words, expected) in [
-        ("sframe se", vec!["seal"]),
+        ("sframe se", vec!["seal", "seal-pieces"]),
         ("sframe group", vec!["group-kid", "group-parts"]),
         ("sframe seal --o", vec!["--out", "--offset"]),
         ("sframe list --", vec!["--json", "--help"]),

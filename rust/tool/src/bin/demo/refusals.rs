@@ -29,6 +29,7 @@ pub fn show() -> Result<(), Refusal> {
     of_opening(&mut doctor, &frame);
     assert_eq!((ward, doctor), before);
     of_replay(&mut ward, &mut doctor, &frame)?;
+    of_pieces(&mut ward)?;
     of_ratchet();
     of_groups(&mut doctor);
     Ok(())
@@ -126,6 +127,20 @@ fn of_replay(ward: &mut [u8], doctor: &mut [u8], frame: &[u8]) -> Result<(), Ref
         refusal(late),
         "the same frame once more, after that of counter 64",
     );
+    Ok(())
+}
+
+fn of_pieces(ward: &mut [u8]) -> Result<(), Refusal> {
+    let mut room = [0xee; 16];
+    let mut ward = Store::over(ward);
+    let (mut sealing, header) = ward.seal_begin(KID, Metadata::NONE, 9, &mut room)?;
+    room[..header].fill(0xee);
+    let answer = sealing.piece(b"ten bytes!", &mut room);
+    print(
+        refusal(answer),
+        "a piece of ten bytes where nine were announced",
+    );
+    assert_eq!(room, [0xee; 16]);
     Ok(())
 }
 

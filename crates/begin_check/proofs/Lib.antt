@@ -1,0 +1,2 @@
+mod CheckSteps
+pub mod Checks

@@ -1,0 +1,2 @@
+mod BeginSteps
+pub mod Begins

@@ -1,0 +1,3 @@
+mod Steps
+pub mod Blocks
+pub mod Joins

@@ -1,0 +1,6 @@
+mod Steps
+mod Begins
+mod CallSteps
+pub mod Lines
+pub mod CallLaws
+pub mod Joined
