@@ -1,0 +1,3 @@
+mod Moves
+mod Lives
+pub mod Theorem
