@@ -1,3 +1,4 @@
 pub mod InPlace
 pub mod NoOthers
+pub mod InUse
 pub mod Blocks

@@ -1,3 +1,4 @@
-mod Moves
+pub mod Listed
 mod Lives
+mod Moves
 pub mod Theorem
