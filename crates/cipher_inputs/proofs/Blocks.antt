@@ -73,11 +73,12 @@ module _ (nonce : List ℕ) (sized : length nonce ≡ 12) where
       (every-map (Of nonce count (count + n)) (Of nonce count (count + suc n)) (λ b p. (p .0, p .1, omega (arith, p .2))) (counterBlocks nonce count n) (blocks-of count n (omega arith)))
       (block-of count (count + suc n) (count + n) (omega arith) (omega arith) (omega arith), tt)
 
-  -- one is none of those with other block counts
-  off-others : (low high c : ℕ) → c < 2 ^ 32 → c < low → (l : List (List ℕ)) → Every (Of nonce low high) l → Off (counterBlock nonce c) l
-  off-others low high c h k l p =
-      off-every (Of nonce low high) (counterBlock nonce c)
-      (λ b q e. let f : countIn b ≡ c = ap countIn (sym e) ∙ counter-count nonce c sized h in omega (arith, q .1)) l p
+  -- one with a lower block count is none of them
+  off-blocks : (c count n : ℕ) → c < count → count + n < 2 ^ 32 → Off (counterBlock nonce c) (counterBlocks nonce count n)
+  off-blocks c count n k h =
+      off-every (Of nonce count (count + n)) (counterBlock nonce c)
+      (λ b q e. let f : countIn b ≡ c = ap countIn (sym e) ∙ counter-count nonce c sized (omega arith) in omega (arith, q .1))
+      (counterBlocks nonce count n) (blocks-of count n h)
 
   blocks-once : (count n : ℕ) → count + n < 2 ^ 32 → Once (counterBlocks nonce count n)
   unfolding counterBlocks
@@ -90,23 +91,21 @@ module _ (nonce : List ℕ) (sized : length nonce ≡ 12) where
 
   -- ---- a sealing
 
+  data-of : (low count n : ℕ) → low ≤ count → count + n < 2 ^ 32 → Every (Of nonce low (2 ^ 32)) (counterBlocks nonce count n)
+  data-of low count n k h =
+      every-map (Of nonce count (count + n)) (Of nonce low (2 ^ 32)) (λ b p. (p .0, omega (arith, p .1), omega (arith, p .2))) (counterBlocks nonce count n) (blocks-of count n h)
+
   module _ (n : ℕ) (short : n ≤ maxPlaintext) where
     pub sealing-of : (m : Mode) → Every (Of nonce (lowest m) (2 ^ 32)) (sealingInputs m nonce n)
     unfolding sealingInputs
-    sealing-of CtrHmac = every-map (Of nonce 0 (0 + blocks n)) (Of nonce 0 (2 ^ 32)) (λ b p. (p .0, p .1, omega (arith, p .2))) (counterBlocks nonce 0 (blocks n)) (blocks-of 0 (blocks n) (omega arith))
-    sealing-of Gcm = (
-      block-of 1 (2 ^ 32) 1 (omega arith) (omega arith) (omega arith),
-      every-map (Of nonce 2 (2 + blocks n)) (Of nonce 1 (2 ^ 32)) (λ b p. (p .0, omega (arith, p .1), omega (arith, p .2))) (counterBlocks nonce 2 (blocks n)) (blocks-of 2 (blocks n) (omega arith)),
-    )
+    sealing-of CtrHmac = data-of 0 _ _ (omega arith) (omega arith)
+    sealing-of Gcm = (block-of 1 (2 ^ 32) _ (omega arith) (omega arith) (omega arith), data-of 1 _ _ (omega arith) (omega arith))
 
     -- In one sealing no two listed inputs are equal.
     pub sealing-once : (m : Mode) → Once (sealingInputs m nonce n)
     unfolding sealingInputs
-    sealing-once CtrHmac = blocks-once 0 (blocks n) (omega arith)
-    sealing-once Gcm = (
-      off-others 2 (2 + blocks n) 1 (omega arith) (omega arith) (counterBlocks nonce 2 (blocks n)) (blocks-of 2 (blocks n) (omega arith)),
-      blocks-once 2 (blocks n) (omega arith),
-    )
+    sealing-once CtrHmac = blocks-once _ _ (omega arith)
+    sealing-once Gcm = (off-blocks _ _ _ (omega arith) (omega arith), blocks-once _ _ (omega arith))
 
 -- ---- a key
 
