@@ -44,15 +44,15 @@ once-append (x ∷ a) b p q h = (off-append x a b (p .0) (h .0), once-append a b
 -- ---- counter blocks
 
 -- the nonce and the block count of a block
-abbrev pub nonceIn : List ℕ → List ℕ
-nonceIn b = take 12 b
+abbrev pub blockNonce : List ℕ → List ℕ
+blockNonce b = take 12 b
 
-abbrev pub countIn : List ℕ → ℕ
-countIn b = number 4 (drop 12 b)
+abbrev pub blockCount : List ℕ → ℕ
+blockCount b = number 4 (drop 12 b)
 
 -- of that nonce, with a block count in that range
 abbrev pub Of : (nonce : List ℕ) (low high : ℕ) (b : List ℕ) → Type 0
-Of nonce low high b = (nonceIn b ≡ nonce) × (low ≤ countIn b) × (countIn b < high)
+Of nonce low high b = (blockNonce b ≡ nonce) × (low ≤ blockCount b) × (blockCount b < high)
 
 -- the lowest block count of a mode
 abbrev pub lowest : Mode → ℕ
@@ -77,16 +77,16 @@ module _ (nonce : List ℕ) (sized : length nonce ≡ 12) where
   off-blocks : (c count n : ℕ) → c < count → count + n < 2 ^ 32 → Off (counterBlock nonce c) (counterBlocks nonce count n)
   off-blocks c count n k h =
       off-every (Of nonce count (count + n)) (counterBlock nonce c)
-      (λ b q e. let f : countIn b ≡ c = ap countIn (sym e) ∙ counter-count nonce c sized (omega arith) in omega (arith, q .1))
+      (λ b q e. let f : blockCount b ≡ c = ap blockCount (sym e) ∙ counter-count nonce c sized (omega arith) in omega (arith, q .1))
       (counterBlocks nonce count n) (blocks-of count n h)
 
-  blocks-once : (count n : ℕ) → count + n < 2 ^ 32 → Once (counterBlocks nonce count n)
+  stream-once : (count n : ℕ) → count + n < 2 ^ 32 → Once (counterBlocks nonce count n)
   unfolding counterBlocks
-  blocks-once count zero h = tt
-  blocks-once count (suc n) h =
-      once-append (counterBlocks nonce count n) (counterBlock nonce (count + n) ∷ []) (blocks-once count n (omega arith)) (tt, tt)
+  stream-once count zero h = tt
+  stream-once count (suc n) h =
+      once-append (counterBlocks nonce count n) (counterBlock nonce (count + n) ∷ []) (stream-once count n (omega arith)) (tt, tt)
       (every-map (Of nonce count (count + n)) (λ x. Off x (counterBlock nonce (count + n) ∷ []))
-      (λ b p. ((λ e. let f : countIn b ≡ count + n = ap countIn e ∙ counter-count nonce (count + n) sized (omega arith) in omega (arith, p .2)), tt))
+      (λ b p. ((λ e. let f : blockCount b ≡ count + n = ap blockCount e ∙ counter-count nonce (count + n) sized (omega arith) in omega (arith, p .2)), tt))
       (counterBlocks nonce count n) (blocks-of count n (omega arith)))
 
   -- ---- a sealing
@@ -104,13 +104,13 @@ module _ (nonce : List ℕ) (sized : length nonce ≡ 12) where
     -- In one sealing no two listed inputs are equal.
     pub sealing-once : (m : Mode) → Once (sealingInputs m nonce n)
     unfolding sealingInputs
-    sealing-once CtrHmac = blocks-once _ _ (omega arith)
-    sealing-once Gcm = (off-blocks _ _ _ (omega arith) (omega arith), blocks-once _ _ (omega arith))
+    sealing-once CtrHmac = stream-once _ _ (omega arith)
+    sealing-once Gcm = (off-blocks _ _ _ (omega arith) (omega arith), stream-once _ _ (omega arith))
 
 -- ---- a key
 
 -- The hash key's input is none of those with a block count that the mode uses.
-pub key-once : (m : Mode) (l : List (List ℕ)) → Every (λ b. lowest m ≤ countIn b) l → Once l → Once (keyInputs m ++ l)
+pub key-once : (m : Mode) (l : List (List ℕ)) → Every (λ b. lowest m ≤ blockCount b) l → Once l → Once (keyInputs m ++ l)
 unfolding number
 key-once CtrHmac l p q = q
-key-once Gcm l p q = (off-every (λ b. 1 ≤ countIn b) zeroBlock (λ b h e. let z : countIn b ≡ 0 = ap countIn (sym e) in omega (arith, h)) l p, q)
+key-once Gcm l p q = (off-every (λ b. 1 ≤ blockCount b) zeroBlock (λ b h e. let z : blockCount b ≡ 0 = ap blockCount (sym e) in omega (arith, h)) l p, q)

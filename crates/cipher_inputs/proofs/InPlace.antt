@@ -21,7 +21,7 @@ use Rattle.suites.proofs.Laws.{ctr-not-gcm, whole-key}
 use Rattle.piece_stream.specs.CounterFrom.{ctrFrom}
 use Rattle.pieces.specs.State.{aadIn, takenIn, nonceIn, keyIn, hashIn}
 use Rattle.pieces.specs.Line.{hashAfter, front, keyField, stateAfter, begun, hashMore, after, cipherPiece, tagFrom, tagIn}
-use Rattle.cipher_inputs.specs.AnyCipher.{aes, streamBy, hashKeyBy, maskBy, ciphertextBy, tagBy, encryptBy, hashAfterBy, begunBy, cipherPieceBy, hashMoreBy, afterBy, tagFromBy, tagInBy}
+use Rattle.cipher_inputs.specs.AnyCipher.{aes, streamBy, hashKeyBy, maskBy, ciphertextBy, tagBy, aeadBy, hashAfterBy, begunBy, cipherPieceBy, hashMoreBy, afterBy, tagFromBy, tagInBy}
 
 stream-is : (key nonce : List ℕ) (count n : ℕ) → keyStream key nonce count n ≡ streamBy (λ b. Aes.encrypt key b) nonce count n
 unfolding keyStream streamBy
@@ -57,8 +57,8 @@ module _ (s : Suite) (key : List ℕ) (whole : modeOf s ≡ Gcm → cipherKey s 
   tag-from-by Gcm e nt nonce aad taken b = ap (λ (k : List ℕ). tagFrom Gcm nt k nonce aad taken b) (sym (whole e))
 
 module _ (s : Suite) (key : List ℕ) (sized : length key ≡ Nk s) where
-  pub encrypt-in-place : (nonce aad p : List ℕ) → Aead.encrypt s key nonce aad p ≡ encryptBy (aes s key) s key nonce aad p
-  unfolding Aead.encrypt Aead.tag encryptBy
+  pub encrypt-in-place : (nonce aad p : List ℕ) → Aead.encrypt s key nonce aad p ≡ aeadBy (aes s key) s key nonce aad p
+  unfolding Aead.encrypt Aead.tag aeadBy
   encrypt-in-place nonce aad p =
       ap (λ (c : List ℕ). c ++ Aead.tagIn (modeOf s) (Nt s) key nonce aad c) (ciphertext-is s key nonce p)
       ∙ ap (λ (t : List ℕ). ciphertextBy (aes s key) s nonce p ++ t)

@@ -13,13 +13,13 @@ use Rattle.pieces.specs.Calls.{past}
 use Rattle.pieces.proofs.Lines as Line
 use Rattle.cipher_inputs.specs.Blocks.{AgreeOn}
 use Rattle.cipher_inputs.specs.Inputs.{allInputs}
-use Rattle.cipher_inputs.specs.AnyCipher.{aes, encryptBy, begunBy, cipherPieceBy, afterBy, tagInBy}
+use Rattle.cipher_inputs.specs.AnyCipher.{aes, aeadBy, begunBy, cipherPieceBy, afterBy, tagInBy}
 use Rattle.cipher_inputs.proofs.InPlace.{encrypt-in-place, begun-in-place, piece-in-place, after-in-place, end-in-place}
 use Rattle.cipher_inputs.proofs.NoOthers.{encrypt-only, begun-only, piece-only, after-only, end-only}
 
 module _ (F : List ℕ → List ℕ) (s : Suite) (key : List ℕ) (sized : length key ≡ Nk s) where
   -- A whole sealing.
-  pub encrypt-listed : (nonce aad p : List ℕ) → AgreeOn (aes s key) F (allInputs (modeOf s) nonce (length p)) → encrypt s key nonce aad p ≡ encryptBy F s key nonce aad p
+  pub encrypt-listed : (nonce aad p : List ℕ) → AgreeOn (aes s key) F (allInputs (modeOf s) nonce (length p)) → encrypt s key nonce aad p ≡ aeadBy F s key nonce aad p
   encrypt-listed nonce aad p h = encrypt-in-place s key sized nonce aad p ∙ encrypt-only (aes s key) F s key nonce aad p h
 
   -- A beginning.
@@ -28,17 +28,17 @@ module _ (F : List ℕ → List ℕ) (s : Suite) (key : List ℕ) (sized : lengt
 
 -- A piece and the end of a line, with the nonce and the length that its beginning was given. c is the ciphertext taken so far.
 module _ (F : List ℕ → List ℕ) (kind : ℕ) (s : Suite) (n : ℕ) (nonce key aad : List ℕ) (g : Line.Given s n nonce key aad) (h : AgreeOn (aes s key) F (allInputs (modeOf s) nonce n)) (c tail : List ℕ) where
-  abbrev S : List ℕ
-  S = stateAfter kind s n nonce key aad c ++ tail
+  abbrev stateNow : List ℕ
+  stateNow = stateAfter kind s n nonce key aad c ++ tail
 
-  agree-in : AgreeOn (aes s (keyIn s S)) F (allInputs (modeOf s) (nonceIn S) (announcedIn S))
+  agree-in : AgreeOn (aes s (keyIn s stateNow)) F (allInputs (modeOf s) (nonceIn stateNow) (announcedIn stateNow))
   agree-in = rw (Line.key-is kind s n nonce key aad g c tail, Line.nonce-is kind s n nonce key aad g c tail, Line.announced-is kind s n nonce key aad g c tail) h
 
-  pub piece-listed : (piece : List ℕ) → past S (length piece) ≡ false → cipherPiece s S piece ≡ cipherPieceBy F s S piece
-  piece-listed piece t = piece-in-place s S piece ∙ piece-only (aes s (keyIn s S)) F s S agree-in piece t
+  pub piece-listed : (piece : List ℕ) → past stateNow (length piece) ≡ false → cipherPiece s stateNow piece ≡ cipherPieceBy F s stateNow piece
+  piece-listed piece t = piece-in-place s stateNow piece ∙ piece-only (aes s (keyIn s stateNow)) F s stateNow agree-in piece t
 
-  pub after-listed : (d : List ℕ) → after s S d ≡ afterBy F s S d
-  after-listed d = after-in-place s S d ∙ after-only (aes s (keyIn s S)) F s S agree-in d
+  pub after-listed : (d : List ℕ) → after s stateNow d ≡ afterBy F s stateNow d
+  after-listed d = after-in-place s stateNow d ∙ after-only (aes s (keyIn s stateNow)) F s stateNow agree-in d
 
-  pub end-listed : tagIn s S ≡ tagInBy F s S
-  end-listed = end-in-place s S ∙ end-only (aes s (keyIn s S)) F s S agree-in
+  pub end-listed : tagIn s stateNow ≡ tagInBy F s stateNow
+  end-listed = end-in-place s stateNow ∙ end-only (aes s (keyIn s stateNow)) F s stateNow agree-in

@@ -25,7 +25,7 @@ use Rattle.pieces.specs.Line.{front, keyField}
 use Rattle.pieces.specs.Calls.{past}
 use Rattle.cipher_inputs.specs.Blocks.{zeroBlock, counterBlocks, AgreeOn}
 use Rattle.cipher_inputs.specs.Inputs.{keyInputs, maskInputs, sealingInputs, allInputs}
-use Rattle.cipher_inputs.specs.AnyCipher.{streamBy, hashKeyBy, maskBy, ciphertextBy, tagBy, encryptBy, hashAfterBy, begunBy, cipherPieceBy, hashMoreBy, afterBy, tagFromBy, tagInBy}
+use Rattle.cipher_inputs.specs.AnyCipher.{streamBy, hashKeyBy, maskBy, ciphertextBy, tagBy, aeadBy, hashAfterBy, begunBy, cipherPieceBy, hashMoreBy, afterBy, tagFromBy, tagInBy}
 
 module _ (E F : List ℕ → List ℕ) where
   agree-left : (a b : List (List ℕ)) → AgreeOn E F (a ++ b) → AgreeOn E F a
@@ -82,8 +82,8 @@ module _ (E F : List ℕ → List ℕ) where
   tag-only Gcm nt n key nonce aad c h =
       ap₂ (λ (k : ℕ) (m : List ℕ). xors (bytes 16 (hash k aad c)) m) (hash-key-agree (key-agree Gcm nonce n h)) (mask-agree nonce n h)
 
-  pub encrypt-only : (s : Suite) (key nonce aad p : List ℕ) → AgreeOn E F (allInputs (modeOf s) nonce (length p)) → encryptBy E s key nonce aad p ≡ encryptBy F s key nonce aad p
-  unfolding encryptBy
+  pub encrypt-only : (s : Suite) (key nonce aad p : List ℕ) → AgreeOn E F (allInputs (modeOf s) nonce (length p)) → aeadBy E s key nonce aad p ≡ aeadBy F s key nonce aad p
+  unfolding aeadBy
   encrypt-only s key nonce aad p h =
       ap (λ (c : List ℕ). c ++ tagBy E (modeOf s) (Nt s) key nonce aad c) (ciphertext-only s nonce p h)
       ∙ ap (λ (t : List ℕ). ciphertextBy F s nonce p ++ t) (tag-only (modeOf s) (Nt s) (length p) key nonce aad (ciphertextBy F s nonce p) h)

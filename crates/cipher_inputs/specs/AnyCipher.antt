@@ -46,8 +46,8 @@ module _ (E : List ℕ → List ℕ) where
   tagBy CtrHmac nt key nonce aad c = ctrTag nt key nonce aad c
   tagBy Gcm nt key nonce aad c = xors (bytes tagSize (hash hashKeyBy aad c)) (maskBy nonce)
 
-  unfoldable pub encryptBy : (s : Suite) (key nonce aad plaintext : List ℕ) → List ℕ
-  encryptBy s key nonce aad plaintext =
+  unfoldable pub aeadBy : (s : Suite) (key nonce aad plaintext : List ℕ) → List ℕ
+  aeadBy s key nonce aad plaintext =
       let c = ciphertextBy s nonce plaintext in
       c ++ tagBy (modeOf s) (Nt s) key nonce aad c
 

@@ -21,7 +21,7 @@ use Rattle.seal_frame.specs.Seal.{nextFrame}
 use Rattle.begin_state.specs.Begin.{firstState}
 use Rattle.cipher_inputs.specs.Blocks.{AgreeOn}
 use Rattle.cipher_inputs.specs.Inputs.{keyInputs, sealingInputs, allInputs}
-use Rattle.cipher_inputs.specs.AnyCipher.{aes, encryptBy, begunBy}
+use Rattle.cipher_inputs.specs.AnyCipher.{aes, aeadBy, begunBy}
 use Rattle.cipher_inputs.proofs.InUse.{encrypt-listed, begun-listed}
 use Rattle.record_life.specs.Life.{hashKeyInputs, begunInputs}
 
@@ -32,21 +32,21 @@ module _ (F : List ℕ → List ℕ) (r : SendingKey) (s : Suite) (is-suite : na
   inputs-are n = rw is-suite
 
   module _ (kid : ℕ) (metadata : List ℕ) where
-    abbrev aad : List ℕ
-    aad = header kid (r .counter) ++ metadata
+    abbrev covered : List ℕ
+    covered = header kid (r .counter) ++ metadata
 
     -- The frame that a Seal writes.
     pub seal-listed : (p : List ℕ) → AgreeOn (aes s (r .key)) F (hashKeyInputs (r .suite) ++ begunInputs sframe (sending r) (length p))
-        → nextFrame sframe (sending r) kid metadata p ≡ header kid (r .counter) ++ encryptBy F s (r .key) (nonce (r .salt) (r .counter)) aad p
+        → nextFrame sframe (sending r) kid metadata p ≡ header kid (r .counter) ++ aeadBy F s (r .key) (nonce (r .salt) (r .counter)) covered p
     unfolding nextFrame frame frameWith Sframe.encryptBy
     seal-listed p h =
-        ap (λ (f : Found). header kid (r .counter) ++ withSuite [] (λ x. Aead.encrypt x (r .key) (nonce (r .salt) (r .counter)) aad p) f) is-suite
-        ∙ ap (λ (l : List ℕ). header kid (r .counter) ++ l) (encrypt-listed F s (r .key) sized (nonce (r .salt) (r .counter)) aad p (rw (inputs-are (length p)) at h))
+        ap (λ (f : Found). header kid (r .counter) ++ withSuite [] (λ x. Aead.encrypt x (r .key) (nonce (r .salt) (r .counter)) covered p) f) is-suite
+        ∙ ap (λ (l : List ℕ). header kid (r .counter) ++ l) (encrypt-listed F s (r .key) sized (nonce (r .salt) (r .counter)) covered p (rw (inputs-are (length p)) at h))
 
     -- The state that a Begin writes.
     pub begin-listed : (n : ℕ) → AgreeOn (aes s (r .key)) F (hashKeyInputs (r .suite) ++ begunInputs sframe (sending r) n)
-        → firstState sframe sealing (sending r) (r .counter) n aad ≡ begunBy F sealing s n (nonce (r .salt) (r .counter)) (r .key) aad
+        → firstState sframe sealing (sending r) (r .counter) n covered ≡ begunBy F sealing s n (nonce (r .salt) (r .counter)) (r .key) covered
     unfolding firstState
     begin-listed n h =
-        ap (λ (f : Found). withSuite [] (λ x. begun sealing x n (nonce (r .salt) (r .counter)) (r .key) aad) f) is-suite
-        ∙ begun-listed F s (r .key) sized sealing n (nonce (r .salt) (r .counter)) aad (rw (inputs-are n) at h)
+        ap (λ (f : Found). withSuite [] (λ x. begun sealing x n (nonce (r .salt) (r .counter)) (r .key) covered) f) is-suite
+        ∙ begun-listed F s (r .key) sized sealing n (nonce (r .salt) (r .counter)) covered (rw (inputs-are n) at h)

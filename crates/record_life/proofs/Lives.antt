@@ -18,7 +18,7 @@ use Rattle.store.proofs.CipherLaws.{Laws}
 use Rattle.seal_frame.proofs.Seals.{next}
 use Rattle.cipher_inputs.specs.Blocks.{Off, Once}
 use Rattle.cipher_inputs.specs.Inputs.{keyInputs, sealingInputs}
-use Rattle.cipher_inputs.proofs.Blocks.{Every, every-append, every-map, off-every, once-append, nonceIn, countIn, Of, lowest, sealing-of, sealing-once, key-once}
+use Rattle.cipher_inputs.proofs.Blocks.{Every, every-append, every-map, off-every, once-append, blockNonce, blockCount, Of, lowest, sealing-of, sealing-once, key-once}
 use Rattle.record_life.specs.Life.{hashKeyInputs, heldInputs, begunInputs}
 
 -- the lowest block count of a suite, by number
@@ -28,7 +28,7 @@ least suite = withSuite 0 (λ s. lowest (modeOf s)) (named suite)
 module _ (cipher : Cipher) where
   -- a block with the nonce of some counter that is not below from, and a block count that the suite uses
   pub data Later (suite : ℕ) (salt : List ℕ) (from : ℕ) (b : List ℕ) : Type 0 where
-    later : (c : ℕ) → from ≤ c → c < 2 ^ 64 → nonceIn b ≡ cipher .nonce salt c → least suite ≤ countIn b → Later suite salt from b
+    later : (c : ℕ) → from ≤ c → c < 2 ^ 64 → blockNonce b ≡ cipher .nonce salt c → least suite ≤ blockCount b → Later suite salt from b
 
   -- what may be listed from a record on
   abbrev pub Good : (held : KeyRecord) (l : List (List ℕ)) → Type 0
@@ -44,15 +44,15 @@ module _ (cipher : Cipher) where
   good-none (retired r) = refl
 
   -- the hash key's input before it
-  later-count : (suite : ℕ) (salt : List ℕ) (from : ℕ) (b : List ℕ) → Later suite salt from b → least suite ≤ countIn b
+  later-count : (suite : ℕ) (salt : List ℕ) (from : ℕ) (b : List ℕ) → Later suite salt from b → least suite ≤ blockCount b
   later-count suite salt from b (later c p q e h) = h
 
   pub key-good : (r : SendingKey) (l : List (List ℕ)) → Good (sending r) l → Once (hashKeyInputs (r .suite) ++ l)
   unfolding hashKeyInputs least
   key-good r l g =
-      by (named (r .suite)) (every-map (Later (r .suite) (r .salt) (r .counter)) (λ b. least (r .suite) ≤ countIn b) (later-count (r .suite) (r .salt) (r .counter)) l (g .1))
+      by (named (r .suite)) (every-map (Later (r .suite) (r .salt) (r .counter)) (λ b. least (r .suite) ≤ blockCount b) (later-count (r .suite) (r .salt) (r .counter)) l (g .1))
     where
-      by : (f : Found) → Every (λ b. withSuite 0 (λ s. lowest (modeOf s)) f ≤ countIn b) l → Once (withSuite [] (λ s. keyInputs (modeOf s)) f ++ l)
+      by : (f : Found) → Every (λ b. withSuite 0 (λ s. lowest (modeOf s)) f ≤ blockCount b) l → Once (withSuite [] (λ s. keyInputs (modeOf s)) f ++ l)
       by (Known s) p = key-once (modeOf s) l p (g .0)
       by Unknown p = g .0
 
@@ -71,15 +71,15 @@ module _ (cipher : Cipher) where
 
     -- of the nonce of the record's next counter
     Own : List ℕ → Type 0
-    Own b = (nonceIn b ≡ iv) × (least (r .suite) ≤ countIn b)
+    Own b = (blockNonce b ≡ iv) × (least (r .suite) ≤ blockCount b)
 
     begun-own : Every Own (begunInputs cipher (sending r) n)
     unfolding begunInputs least Own
     begun-own = by (named (r .suite))
       where
-        by : (f : Found) → Every (λ b. (nonceIn b ≡ iv) × (withSuite 0 (λ s. lowest (modeOf s)) f ≤ countIn b)) (withSuite [] (λ s. sealingInputs (modeOf s) iv n) f)
+        by : (f : Found) → Every (λ b. (blockNonce b ≡ iv) × (withSuite 0 (λ s. lowest (modeOf s)) f ≤ blockCount b)) (withSuite [] (λ s. sealingInputs (modeOf s) iv n) f)
         by (Known s) =
-            every-map (Of iv (lowest (modeOf s)) (2 ^ 32)) (λ b. (nonceIn b ≡ iv) × (lowest (modeOf s) ≤ countIn b)) (λ b p. (p .0, p .1))
+            every-map (Of iv (lowest (modeOf s)) (2 ^ 32)) (λ b. (blockNonce b ≡ iv) × (lowest (modeOf s) ≤ blockCount b)) (λ b p. (p .0, p .1))
             (sealingInputs (modeOf s) iv n) (sealing-of iv iv-sized n short (modeOf s))
         by Unknown = tt
 
@@ -95,7 +95,7 @@ module _ (cipher : Cipher) where
     apart : (b c : List ℕ) → Own b → Later (r .suite) (r .salt) (r .counter + 1) c → b ≡ c → ⊥
     unfolding Own
     apart b c p (later d h k e m) q =
-        let z : r .counter ≡ d = laws .nonce-apart (r .salt) (r .counter) d (fit .1 .salt-length) (fit .1 .salt-octets) (omega arith) k (sym (p .0) ∙ ap nonceIn q ∙ e) in
+        let z : r .counter ≡ d = laws .nonce-apart (r .salt) (r .counter) d (fit .1 .salt-length) (fit .1 .salt-octets) (omega arith) k (sym (p .0) ∙ ap blockNonce q ∙ e) in
         omega arith
 
     own-later : (b : List ℕ) → Own b → Later (r .suite) (r .salt) (r .counter) b
@@ -109,10 +109,10 @@ module _ (cipher : Cipher) where
     pub begun-good : (l : List (List ℕ)) → Good (next r) l → Good (sending r) (begunInputs cipher (sending r) n ++ l)
     begun-good l g = (
       once-append (begunInputs cipher (sending r) n) l begun-once (g .0)
-      (every-map Own (λ b. Off b l) (λ b p. off-every (Later (r .suite) (r .salt) (r .counter + 1)) b (λ c q. apart b c p q) l (g .1)) (begunInputs cipher (sending r) n) begun-own),
+          (every-map Own (λ b. Off b l) (λ b p. off-every (Later (r .suite) (r .salt) (r .counter + 1)) b (λ c q. apart b c p q) l (g .1)) (begunInputs cipher (sending r) n) begun-own),
       every-append (Later (r .suite) (r .salt) (r .counter)) (begunInputs cipher (sending r) n) l
-      (every-map Own (Later (r .suite) (r .salt) (r .counter)) own-later (begunInputs cipher (sending r) n) begun-own)
-      (every-map (Later (r .suite) (r .salt) (r .counter + 1)) (Later (r .suite) (r .salt) (r .counter)) sooner l (g .1)),
+          (every-map Own (Later (r .suite) (r .salt) (r .counter)) own-later (begunInputs cipher (sending r) n) begun-own)
+          (every-map (Later (r .suite) (r .salt) (r .counter + 1)) (Later (r .suite) (r .salt) (r .counter)) sooner l (g .1)),
     )
 
 -- ---- how a call moves the record of a KID, and what it lists
