@@ -1,0 +1,4 @@
+pub mod InPlace
+pub mod NoOthers
+pub mod InUse
+pub mod Blocks

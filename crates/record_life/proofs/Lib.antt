@@ -1,0 +1,4 @@
+pub mod Listed
+mod Lives
+mod Moves
+pub mod Theorem
