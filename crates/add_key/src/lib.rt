@@ -1,3 +1,4 @@
+// SPDX-License-Identifier: MIT
 // Adding a key. The causes are tried in the order 1, 2, 17, 3, 4, 5.
 ghost use mathlib.Core.Path.{_≡_};
 ghost use Rattle.add_key.specs.Add.{barred, add};

@@ -1,3 +1,4 @@
+// SPDX-License-Identifier: MIT
 // Adding a track. The causes are tried in the order 1, 2, 17, 3, 9, 4, 5.
 ghost use mathlib.Core.Path.{_≡_};
 ghost use Rattle.track_record.specs.Record.{trackId};

@@ -1,3 +1,4 @@
+-- SPDX-License-Identifier: MIT
 -- Laws of blocks: how a state is written as bytes.
 -- Assumes nothing.
 use mathlib.Core.Path.{_≡_, refl, ap, sym, _∙_}

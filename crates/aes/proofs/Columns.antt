@@ -1,3 +1,4 @@
+-- SPDX-License-Identifier: MIT
 -- Laws of the table of the rounds: how it is filled, and what a round makes of a state by it.
 -- Assumes nothing.
 use mathlib.Core.Path.{_≡_, refl, ap, sym, _∙_}

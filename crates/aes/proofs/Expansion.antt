@@ -1,3 +1,4 @@
+-- SPDX-License-Identifier: MIT
 -- Laws of the key schedule and of the cipher that reads it.
 -- Assumes nothing.
 use mathlib.Core.Path.{_≡_, refl, ap, sym, _∙_}

@@ -1,3 +1,4 @@
+-- SPDX-License-Identifier: MIT
 -- What the crates above cite of AES.
 -- Assumes nothing.
 use mathlib.Core.Path.{_≡_, sym, subst}

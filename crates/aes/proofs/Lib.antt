@@ -1,3 +1,4 @@
+-- SPDX-License-Identifier: MIT
 pub mod Words
 pub mod Columns
 pub mod Expansion

@@ -1,3 +1,4 @@
+-- SPDX-License-Identifier: MIT
 -- Laws of words and of the field: bytes of a word, XOR of words, products by 2 and 3.
 -- Assumes nothing.
 use mathlib.Core.Path.{_≡_, refl, ap, sym, _∙_}

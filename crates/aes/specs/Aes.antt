@@ -1,3 +1,4 @@
+-- SPDX-License-Identifier: MIT
 -- FIPS 197 §5: the cipher and the key expansion, over the key's length: Nk words of key, Nr = Nk + 6 rounds.
 -- A word is a number below 2^32, its first byte the highest. A state is the list of its four columns, each a word.
 -- Assumes nothing.

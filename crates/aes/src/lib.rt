@@ -1,3 +1,4 @@
+// SPDX-License-Identifier: MIT
 // AES encryption (FIPS 197) of a block, for keys of 16 and of 32 bytes.
 //
 // A key is made into a context once, by `expand`; `encrypt` and `encrypt_block` work from it. What the array of a

@@ -1,3 +1,4 @@
+// SPDX-License-Identifier: MIT
 // The key schedule (FIPS 197 §5.2).
 use crate::WORDS;
 ghost use mathlib.Core.Path.{_≡_};

@@ -1,3 +1,4 @@
+// SPDX-License-Identifier: MIT
 // The table by which a round works: for each byte, what SubBytes and MixColumns make of it.
 use crate::Context;
 use crate::State;

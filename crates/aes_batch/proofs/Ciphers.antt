@@ -1,3 +1,4 @@
+-- SPDX-License-Identifier: MIT
 -- Laws of the rounds on sixteen blocks.
 -- Assumes nothing.
 use mathlib.Core.Path.{_≡_, refl, sym, _∙_, ap}

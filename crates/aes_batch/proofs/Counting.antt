@@ -1,3 +1,4 @@
+-- SPDX-License-Identifier: MIT
 -- Laws of sixteen counter blocks in planes.
 -- Assumes nothing.
 use mathlib.Core.Path.{_≡_, refl, sym, _∙_, ap, ap₂}

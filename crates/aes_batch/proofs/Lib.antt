@@ -1,3 +1,4 @@
+-- SPDX-License-Identifier: MIT
 pub mod Counting
 pub mod Ciphers
 pub mod Unslicing

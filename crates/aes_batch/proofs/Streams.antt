@@ -1,3 +1,4 @@
+-- SPDX-License-Identifier: MIT
 -- Sixteen counter blocks, encrypted and written as bytes.
 -- Assumes nothing.
 use mathlib.Core.Path.{_≡_, refl, sym, _∙_, ap}

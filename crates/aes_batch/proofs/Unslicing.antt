@@ -1,3 +1,4 @@
+-- SPDX-License-Identifier: MIT
 -- Laws of planes that become bytes.
 -- Assumes nothing.
 use mathlib.Core.Path.{_≡_, refl, sym, _∙_, ap, ap₂}

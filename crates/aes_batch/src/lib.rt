@@ -1,3 +1,4 @@
+// SPDX-License-Identifier: MIT
 // AES encryption (FIPS 197) of sixteen counter blocks at once, in bit planes. What is done does not depend on key or data: no
 // look-up by either, and no branch.
 //

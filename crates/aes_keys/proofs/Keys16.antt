@@ -1,3 +1,4 @@
+-- SPDX-License-Identifier: MIT
 -- Laws of a context that is filled, one round key after the other.
 -- Assumes nothing.
 use mathlib.Core.Path.{_≡_, refl, sym, _∙_, ap, subst}

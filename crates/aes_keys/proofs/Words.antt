@@ -1,3 +1,4 @@
+-- SPDX-License-Identifier: MIT
 -- Laws of SubWord by the circuit, and of words in planes.
 -- Assumes nothing.
 use mathlib.Core.Path.{_≡_, refl, sym, _∙_, ap}

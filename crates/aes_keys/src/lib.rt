@@ -1,3 +1,4 @@
+// SPDX-License-Identifier: MIT
 // The key of AES in bit planes (FIPS 197 §5.2): the key schedule by the circuit of the S-box, with no look-up, and each
 // round key in the form in which a round of sixteen blocks takes it.
 ghost use mathlib.Core.Path.{_≡_};

@@ -1,3 +1,4 @@
+// SPDX-License-Identifier: MIT
 // The key schedule (FIPS 197 §5.2), by the circuit of the S-box.
 use aes::schedule::Place;
 use aes::schedule::Words;

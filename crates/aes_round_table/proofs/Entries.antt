@@ -1,3 +1,4 @@
+-- SPDX-License-Identifier: MIT
 -- The rule of the table, carried to each entry by one test over the whole array.
 -- Assumes nothing.
 use mathlib.Core.Path.{_≡_, _∙_}

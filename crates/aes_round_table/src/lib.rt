@@ -1,3 +1,4 @@
+// SPDX-License-Identifier: MIT
 // The table by which a round of AES works, behind room for a key schedule: what a context starts from. It is one constant,
 // so that it is laid out once for each context, in its place.
 ghost use Rattle.aes_round_table.specs.inner.RoundTable.{RoundTable};

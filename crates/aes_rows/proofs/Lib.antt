@@ -1,3 +1,4 @@
+-- SPDX-License-Identifier: MIT
 pub mod Sets
 pub mod Mixing
 pub mod Rounds16

@@ -1,3 +1,4 @@
+-- SPDX-License-Identifier: MIT
 -- Laws of a round's steps on rows of planes.
 -- Assumes nothing.
 use mathlib.Core.Path.{_≡_, refl, sym, _∙_, ap, ap₂}

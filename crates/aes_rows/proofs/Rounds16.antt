@@ -1,3 +1,4 @@
+-- SPDX-License-Identifier: MIT
 -- What a round does to planes is the round of FIPS 197 on each of the sixteen blocks.
 -- Assumes nothing.
 use mathlib.Core.Path.{_≡_, refl, sym, _∙_, ap}

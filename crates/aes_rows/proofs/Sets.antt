@@ -1,3 +1,4 @@
+-- SPDX-License-Identifier: MIT
 -- Laws of rows that are written, one after the other.
 -- Assumes nothing.
 use mathlib.Core.Path.{_≡_, refl, sym, _∙_, ap}

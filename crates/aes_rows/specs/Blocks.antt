@@ -1,3 +1,4 @@
+-- SPDX-License-Identifier: MIT
 -- The blocks of a state in planes, as states of FIPS 197.
 -- Assumes nothing.
 use mathlib.Core.Path.{_≡_}

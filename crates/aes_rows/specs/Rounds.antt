@@ -1,3 +1,4 @@
+-- SPDX-License-Identifier: MIT
 -- ShiftRows, MixColumns and AddRoundKey on rows of planes.
 -- Assumes nothing.
 use mathlib.Core.Path.{_≡_}

@@ -1,3 +1,4 @@
+-- SPDX-License-Identifier: MIT
 -- The rows of a state that is a list of 32 planes.
 -- Assumes nothing.
 use mathlib.Core.Path.{_≡_}

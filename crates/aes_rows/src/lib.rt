@@ -1,3 +1,4 @@
+// SPDX-License-Identifier: MIT
 // The state of sixteen blocks of AES in bit planes, and the steps of a round on all of them at once.
 //
 // A state is 32 words: word 8 r + i has bit i of row r. In a word stand the four columns of sixteen blocks, 16 lanes for

@@ -1,3 +1,4 @@
+-- SPDX-License-Identifier: MIT
 -- The rule of the round constants, carried to each entry by one test over the whole table.
 -- Assumes nothing.
 use mathlib.Core.Path.{_≡_}

@@ -1,3 +1,4 @@
+-- SPDX-License-Identifier: MIT
 -- The rule of the S-box, carried to each entry by one test over the whole table, and the field's inverse, by one test over
 -- every byte.
 -- Assumes nothing.

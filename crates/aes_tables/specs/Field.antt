@@ -1,3 +1,4 @@
+-- SPDX-License-Identifier: MIT
 -- FIPS 197 §4 and §5.1.1: bytes as elements of GF(2^8), and the S-box; §5.2: the powers of x.
 -- Assumes nothing.
 use Prim.Native.Nat.{ℕ, zero, suc, _+_, _*_, _/_, _%_, _^_}

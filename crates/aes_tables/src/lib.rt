@@ -1,3 +1,4 @@
+// SPDX-License-Identifier: MIT
 // The two tables of constants of AES (FIPS 197), each proved by its rule.
 ghost use Rattle.aes_tables.specs.inner.Tables.{SBoxTable, RconTable};
 

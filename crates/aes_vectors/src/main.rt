@@ -1,3 +1,4 @@
+// SPDX-License-Identifier: MIT
 // Runs the published vectors of AES, counter mode and GCM, and prints for each group how many matched.
 mod run;
 mod vectors;

@@ -1,3 +1,4 @@
+// SPDX-License-Identifier: MIT
 // Runs one vector, given in hexadecimal, and compares the answer with the one expected.
 ghost use Prim.Native.Nat.{_<_};
 ghost use Rattle.io.specs.Counts.{Counts};

@@ -1,3 +1,4 @@
+// SPDX-License-Identifier: MIT
 // The published vectors, in hexadecimal.
 
 // FIPS 197 appendix B (AES-128), C.1 (AES-128) and C.3 (AES-256): key, plaintext, ciphertext.

@@ -1,3 +1,4 @@
+-- SPDX-License-Identifier: MIT
 -- Tests, and the first cause that applies. Assumes nothing.
 use mathlib.Core.Path.{_≡_, refl, sym, _∙_, ap}
 use mathlib.Core.Bool.{Bool, true, false, not, false≢true}

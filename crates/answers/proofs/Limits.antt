@@ -1,3 +1,4 @@
+-- SPDX-License-Identifier: MIT
 -- The limits on the inputs. Assumes nothing.
 use mathlib.Core.Path.{_≡_, sym, _∙_}
 use mathlib.Core.Bool.{Bool, true, false}

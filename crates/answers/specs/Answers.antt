@@ -1,3 +1,4 @@
+-- SPDX-License-Identifier: MIT
 -- The layer's answers: the number of each cause of refusal, and the rule that the first cause that applies is given.
 -- Assumes nothing.
 use mathlib.Core.Bool.{Bool}

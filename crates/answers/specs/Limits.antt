@@ -1,3 +1,4 @@
+-- SPDX-License-Identifier: MIT
 -- How long the inputs of a call may be. Assumes nothing.
 use mathlib.Core.Bool.{Bool, not}
 use Prim.Native.Nat.{ℕ}

@@ -1,3 +1,4 @@
+// SPDX-License-Identifier: MIT
 // What the calls of the layer share: the numbers of their answers, and how long their inputs may be.
 ghost use mathlib.Core.Path.{_≡_};
 ghost use Rattle.answers.specs.Limits.{tooLong};

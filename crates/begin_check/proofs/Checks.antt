@@ -1,3 +1,4 @@
+-- SPDX-License-Identifier: MIT
 -- What beginning to check in pieces does. Assumes nothing.
 use mathlib.Core.Path.{_≡_, refl, sym, _∙_, ap, ap₂}
 use mathlib.Core.Bool.{Bool, true}

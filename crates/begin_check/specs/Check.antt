@@ -1,3 +1,4 @@
+-- SPDX-License-Identifier: MIT
 -- Beginning to check a received frame in pieces: number and running state afterwards, for every input. The causes of refusal stand in
 -- the order in which they are tried.
 -- Assumes nothing.

@@ -1,3 +1,4 @@
+// SPDX-License-Identifier: MIT
 // Beginning to check a received frame in pieces. The causes are tried in the order 1, 10, 6, 7, 9, 12.
 use answers::DONE;
 use answers::HEADER_INVALID;

@@ -1,3 +1,4 @@
+-- SPDX-License-Identifier: MIT
 -- What beginning to seal in pieces does to the table, the room and the running state. Assumes nothing.
 use mathlib.Core.Path.{_≡_, refl, sym, _∙_, ap, ap₂}
 use mathlib.Core.Bool.{Bool, true, false, not, false≢true}

@@ -1,3 +1,4 @@
+-- SPDX-License-Identifier: MIT
 -- Beginning to seal in pieces: number, length, store, room and running state afterwards, for every input. The causes of refusal
 -- stand in the order in which they are tried.
 -- Assumes nothing.

@@ -1,3 +1,4 @@
+-- SPDX-License-Identifier: MIT
 -- A call with a running state that is refused changes nothing. Assumes nothing.
 use mathlib.Core.Path.{_≡_, refl}
 use mathlib.Core.List.{List}

@@ -1,3 +1,4 @@
+// SPDX-License-Identifier: MIT
 // The running state that a line of calls begins with under a record of the store.
 use header::Ctr;
 use suites::Suite;

@@ -1,3 +1,4 @@
+-- SPDX-License-Identifier: MIT
 -- Planes into bytes, and rows of bytes into columns, from the exchanges of the code.
 -- Assumes nothing.
 use mathlib.Core.Path.{_≡_, refl, sym, _∙_, ap, ap₂}

@@ -1,3 +1,4 @@
+-- SPDX-License-Identifier: MIT
 pub mod Swaps
 pub mod Sources
 pub mod Bytes

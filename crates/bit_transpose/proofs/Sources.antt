@@ -1,3 +1,4 @@
+-- SPDX-License-Identifier: MIT
 -- Where each bit of a word comes from, through any number of exchanges. Bit j of word i of a list has the number 64 i + j.
 -- Assumes nothing.
 use mathlib.Core.Path.{_≡_, refl, sym, _∙_, ap, ap₂}

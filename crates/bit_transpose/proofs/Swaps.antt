@@ -1,3 +1,4 @@
+-- SPDX-License-Identifier: MIT
 -- Bits that change places between two words.
 -- Assumes nothing.
 use mathlib.Core.Path.{_≡_, refl, sym, _∙_, ap}

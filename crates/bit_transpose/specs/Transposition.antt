@@ -1,3 +1,4 @@
+-- SPDX-License-Identifier: MIT
 -- Bits and bytes that change places between words.
 -- Assumes nothing.
 use mathlib.Core.Path.{_≡_}

@@ -1,3 +1,4 @@
+// SPDX-License-Identifier: MIT
 // Bits and bytes of several words that change places: planes into bytes, and rows of bytes into columns.
 use bitslice::Planes;
 ghost use mathlib.Core.Path.{_≡_};

@@ -1,3 +1,4 @@
+-- SPDX-License-Identifier: MIT
 -- The bit operations act on each bit of a word apart. Assumes nothing.
 use mathlib.Core.Path.{_≡_, refl, sym, _∙_, ap, ap₂}
 use Prim.Native.Nat.{ℕ, zero, suc, _+_, _*_, _-_, _/_, _%_, _^_, _≤_, _<_, min}

@@ -1,3 +1,4 @@
+-- SPDX-License-Identifier: MIT
 -- Laws of rows of planes: sums and products with x, lane by lane.
 -- Assumes nothing.
 use mathlib.Core.Path.{_≡_, refl, sym, _∙_, ap}

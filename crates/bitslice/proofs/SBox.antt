@@ -1,3 +1,4 @@
+-- SPDX-License-Identifier: MIT
 -- The circuit is the S-box on eight bits, by one test over every byte, and so on each lane of eight words.
 -- Assumes nothing.
 use mathlib.Core.Path.{_≡_, refl, ap, _∙_}

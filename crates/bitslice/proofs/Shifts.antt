@@ -1,3 +1,4 @@
+-- SPDX-License-Identifier: MIT
 -- Bits of a word that is shifted, cut, joined or turned. Assumes nothing.
 use mathlib.Core.Path.{_≡_, refl, sym, _∙_, ap, ap₂}
 use Prim.Native.Nat.{ℕ, zero, suc, _+_, _*_, _-_, _/_, _%_, _^_, _≤_, _<_, max}

@@ -1,3 +1,4 @@
+-- SPDX-License-Identifier: MIT
 -- Laws of bits and bytes that are spread over the lanes where they stand.
 -- Assumes nothing.
 use mathlib.Core.Path.{_≡_, refl, sym, _∙_, ap}

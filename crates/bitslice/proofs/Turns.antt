@@ -1,3 +1,4 @@
+-- SPDX-License-Identifier: MIT
 -- Laws of rows whose lanes change places.
 -- Assumes nothing.
 use mathlib.Core.Path.{_≡_, ap}

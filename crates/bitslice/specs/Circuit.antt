@@ -1,3 +1,4 @@
+-- SPDX-License-Identifier: MIT
 -- The S-box as a circuit of XOR, AND and NOT (Boyar and Peralta: 113 gates and 4 NOTs), in five parts, over any type that
 -- has the three: words of 64 lanes, or bits. Bits are numbered as there, the highest first.
 -- Assumes nothing.

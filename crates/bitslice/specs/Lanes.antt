@@ -1,3 +1,4 @@
+-- SPDX-License-Identifier: MIT
 -- Eight words as 64 lanes, each a byte: bit i of lane j is bit j of word i.
 -- Assumes nothing.
 use mathlib.Core.Path.{_≡_}

@@ -1,3 +1,4 @@
+// SPDX-License-Identifier: MIT
 // Bytes in bit planes: eight words hold 64 bytes, one in each lane, and an operation on words is one on every byte.
 //
 // There is no look-up and no branch here: what is done does not depend on what the bytes are.

@@ -1,3 +1,4 @@
+-- SPDX-License-Identifier: MIT
 -- What a change of epoch does to the table: of every Key ID, what is found afterwards, and that the order stays. Assumes nothing.
 use mathlib.Core.Path.{_≡_, refl, sym, _∙_, ap, ap₂}
 use mathlib.Core.Bool.{Bool, true, false}

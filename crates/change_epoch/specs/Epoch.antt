@@ -1,3 +1,4 @@
+-- SPDX-License-Identifier: MIT
 -- A change of epoch in an MLS group: the receiving keys of an epoch go, by the low E bits of their KIDs (RFC 9605, section 5.2).
 -- Number and store afterwards, for every input. The causes of refusal stand in the order in which they are tried.
 -- Assumes nothing.

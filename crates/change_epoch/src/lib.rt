@@ -1,3 +1,4 @@
+// SPDX-License-Identifier: MIT
 // The change of epoch in an MLS group: the receiving keys of an epoch go, in one pass over the store.
 ghost use mathlib.Core.Path.{_≡_};
 ghost use mathlib.Core.Bool.{true};

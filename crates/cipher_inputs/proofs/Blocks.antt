@@ -1,3 +1,4 @@
+-- SPDX-License-Identifier: MIT
 -- Each listed input once: over one nonce by the block count, over two by the nonce. Assumes nothing.
 use mathlib.Core.Path.{_≡_, refl, sym, _∙_, ap}
 use mathlib.Core.List.{List, [], _∷_, _++_}

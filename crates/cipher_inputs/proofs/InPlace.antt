@@ -1,3 +1,4 @@
+-- SPDX-License-Identifier: MIT
 -- The definitions in use are those over any block function, with AES in place. Assumes nothing.
 use mathlib.Core.Path.{_≡_, refl, sym, _∙_, ap, ap₂}
 use mathlib.Core.List.{List, [], _∷_, _++_}

@@ -1,3 +1,4 @@
+-- SPDX-License-Identifier: MIT
 -- The definitions in use, with any block function that agrees with AES on the listed inputs in its place. Assumes nothing.
 use mathlib.Core.Path.{_≡_, refl, sym, _∙_}
 use mathlib.Core.Bool.{false}

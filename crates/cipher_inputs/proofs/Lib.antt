@@ -1,3 +1,4 @@
+-- SPDX-License-Identifier: MIT
 pub mod InPlace
 pub mod NoOthers
 pub mod InUse

@@ -1,3 +1,4 @@
+-- SPDX-License-Identifier: MIT
 -- From the listed inputs and no others: block functions that agree on them give the same results. Assumes nothing.
 use mathlib.Core.Path.{_≡_, refl, sym, _∙_, ap, ap₂}
 use mathlib.Core.Bool.{true, false}

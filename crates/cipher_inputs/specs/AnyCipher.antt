@@ -1,3 +1,4 @@
+-- SPDX-License-Identifier: MIT
 -- Sealing, whole and in pieces, over any block function E in the place of AES under the key: each definition that makes key stream, mask
 -- or hash key, with E where it has AES. key is what HMAC takes its part of.
 -- Assumes nothing.

@@ -1,3 +1,4 @@
+-- SPDX-License-Identifier: MIT
 -- Lists of blocks: that two block functions agree on one, and that no two of its entries are equal. Assumes nothing.
 use mathlib.Core.Path.{_≡_}
 use mathlib.Core.List.{List, [], _∷_, _++_}

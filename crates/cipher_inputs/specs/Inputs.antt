@@ -1,3 +1,4 @@
+-- SPDX-License-Identifier: MIT
 -- The 16-byte inputs that AES is given in sealing: RFC 9605, section 4.5, with SP 800-38D §7.1. Assumes nothing.
 use mathlib.Core.List.{List, [], _∷_, _++_}
 use Prim.Native.Nat.{ℕ}

@@ -1,3 +1,4 @@
+-- SPDX-License-Identifier: MIT
 pub mod Blocks
 pub mod AnyCipher
 pub mod Inputs

@@ -1,3 +1,4 @@
+-- SPDX-License-Identifier: MIT
 -- A word of 32 bits in four classes, each of the bits that stand four apart: the product of two words from the integer
 -- products of their classes.
 -- Assumes nothing.

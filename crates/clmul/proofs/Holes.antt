@@ -1,3 +1,4 @@
+-- SPDX-License-Identifier: MIT
 -- Multiplication with holes: of two numbers with bits at every fourth place alone, eight at most, the integer product has
 -- at every fourth place the bit of the product without carries.
 -- Assumes nothing.

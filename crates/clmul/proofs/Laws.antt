@@ -1,3 +1,4 @@
+-- SPDX-License-Identifier: MIT
 -- Laws of the product without carries. Other crates cite `clmul-one`, `clmul-xor-r`, `clmul-shift-r` and `karatsuba-product`.
 -- Assumes nothing.
 use mathlib.Core.Path.{_≡_, refl, ap, ap₂, sym, _∙_}

@@ -1,3 +1,4 @@
+-- SPDX-License-Identifier: MIT
 pub mod Sums
 pub mod Laws
 mod Holes

@@ -1,3 +1,4 @@
+-- SPDX-License-Identifier: MIT
 -- Laws of sums by XOR.
 -- Assumes nothing.
 use mathlib.Core.Path.{_≡_, refl, ap, ap₂, sym, _∙_}

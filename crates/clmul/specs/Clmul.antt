@@ -1,3 +1,4 @@
+-- SPDX-License-Identifier: MIT
 -- The product of polynomials over the field of two elements, where bit i of a number is the coefficient of the power i:
 -- a product without carries.
 -- Assumes nothing.

@@ -1,3 +1,4 @@
+// SPDX-License-Identifier: MIT
 // The product of polynomials over the field of two elements, by plain multiplications, with no table and no branch.
 //
 // Of two factors whose set bits stand four apart, at most eight in each, the integer product adds up to eight bits at

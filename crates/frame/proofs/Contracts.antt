@@ -1,3 +1,4 @@
+-- SPDX-License-Identifier: MIT
 -- What the walks of this crate share: the contracts of the functions over a reader, and the types in their MIR. Assumes nothing.
 use mathlib.Core.Path.{_≡_}
 use mathlib.Core.List.{List, [], _∷_}

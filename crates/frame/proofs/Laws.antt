@@ -1,3 +1,4 @@
+-- SPDX-License-Identifier: MIT
 -- The two parts of a frame: together they are the frame, and where a header is read the first alone is read as it. Assumes nothing.
 use mathlib.Core.Path.{_≡_, sym, _∙_, ap}
 use mathlib.Core.List.{List, [], _++_, append-nil}

@@ -1,3 +1,4 @@
+-- SPDX-License-Identifier: MIT
 mod Contracts
 pub mod Laws
 mod Numbers

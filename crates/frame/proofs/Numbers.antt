@@ -1,3 +1,4 @@
+-- SPDX-License-Identifier: MIT
 -- A reader shows one of its numbers, which is a struct of its own. One walk of the MIR, by hand, for every such field. Assumes nothing.
 use mathlib.Core.Path.{_≡_, refl}
 use mathlib.Core.Option.{some}

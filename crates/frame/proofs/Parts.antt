@@ -1,3 +1,4 @@
+-- SPDX-License-Identifier: MIT
 -- A reader shows a part of its frame: it is taken apart, and a function on the slice and the number is called. One walk of the MIR, by hand, for every such part.
 -- The reader is Copy: what it owns is had twice, one copy is kept whole for the exit, and of the other what the slice owns goes to the callee.
 -- Assumes nothing.

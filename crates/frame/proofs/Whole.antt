@@ -1,3 +1,4 @@
+-- SPDX-License-Identifier: MIT
 -- A frame is read, and something of it is shown: a function with plain parameters, which makes a reader in a local and passes it on. One walk of the MIR, by hand, for whatever is shown.
 -- All that the walk knows of the two functions is that they meet their contracts.
 -- Assumes nothing.

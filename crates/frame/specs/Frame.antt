@@ -1,3 +1,4 @@
+-- SPDX-License-Identifier: MIT
 -- The two parts of a frame: its header, and the bytes after it. A header that is refused has no bytes. Assumes nothing.
 use mathlib.Core.List.{List}
 use Prim.Native.Nat.{ℕ}

@@ -1,3 +1,4 @@
+// SPDX-License-Identifier: MIT
 // The frame reader: what a frame's header says, with a reference to the caller's frame, whose parts it hands out as slices.
 // Its functions are thin: each takes it apart and calls one on the slice and the number. `kid_of` and those below it have
 // plain parameters, for every other caller.

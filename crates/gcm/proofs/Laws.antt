@@ -1,3 +1,4 @@
+-- SPDX-License-Identifier: MIT
 -- What the crates above cite of counter mode and GCM.
 -- Assumes nothing.
 use mathlib.Core.Path.{_≡_, ap, sym, _∙_}

@@ -1,3 +1,4 @@
+-- SPDX-License-Identifier: MIT
 pub mod Streams
 pub mod Laws
 mod Tags

@@ -1,3 +1,4 @@
+-- SPDX-License-Identifier: MIT
 -- Laws of the hash key and of the tag.
 -- Assumes nothing.
 use mathlib.Core.Path.{_≡_, ap, sym, _∙_, subst}

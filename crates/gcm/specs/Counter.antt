@@ -1,3 +1,4 @@
+-- SPDX-License-Identifier: MIT
 -- Counter mode (SP 800-38A §6.5) over counter blocks of a 12-byte nonce and a 32-bit block count, as AES-CTR of RFC 9605
 -- and GCM (SP 800-38D §6.5) both have them.
 -- Assumes nothing.

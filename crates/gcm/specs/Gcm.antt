@@ -1,3 +1,4 @@
+-- SPDX-License-Identifier: MIT
 -- GCM (SP 800-38D §7.1) with a nonce of 12 bytes and a tag of 16.
 -- Assumes nothing.
 use mathlib.Core.List.{List, _++_}

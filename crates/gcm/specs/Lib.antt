@@ -1,3 +1,4 @@
+-- SPDX-License-Identifier: MIT
 pub mod Counter
 pub mod Gcm
 pub mod inner

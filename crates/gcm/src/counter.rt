@@ -1,3 +1,4 @@
+// SPDX-License-Identifier: MIT
 // Counter mode over AES: a key stream of encrypted counter blocks, sixteen at a time, XORed with the data.
 use aes_batch::BLOCKS;
 use aes_batch::BYTES;

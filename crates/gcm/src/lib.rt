@@ -1,3 +1,4 @@
+// SPDX-License-Identifier: MIT
 // Counter mode and GCM (SP 800-38D) over AES, for a nonce of 12 bytes and a tag of 16.
 //
 // The associated data are given in two parts and hashed one after the other. A GCM key is an AES context and the

@@ -1,3 +1,4 @@
+-- SPDX-License-Identifier: MIT
 -- Laws of the blocks that GHASH takes in.
 -- Assumes nothing.
 use mathlib.Core.Path.{_≡_, ap, sym, _∙_}

@@ -1,3 +1,4 @@
+-- SPDX-License-Identifier: MIT
 -- Laws of the product of blocks: it is their product as polynomials, halved.
 -- Assumes nothing.
 use mathlib.Core.Path.{_≡_, refl, ap, ap₂, sym, _∙_}

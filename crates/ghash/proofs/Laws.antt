@@ -1,3 +1,4 @@
+-- SPDX-License-Identifier: MIT
 -- What the crates above cite of GHASH: the context of a hash key.
 -- Assumes nothing.
 use mathlib.Core.Path.{_≡_, sym, subst}

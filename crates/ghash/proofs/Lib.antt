@@ -1,3 +1,4 @@
+-- SPDX-License-Identifier: MIT
 mod Halving
 mod Steps
 mod Absorbing

@@ -1,3 +1,4 @@
+-- SPDX-License-Identifier: MIT
 -- One law for each step of a product of blocks, over plain variables.
 -- Assumes nothing.
 use mathlib.Core.Path.{_≡_, ap, ap₂, sym, _∙_, subst}

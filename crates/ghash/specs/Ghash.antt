@@ -1,3 +1,4 @@
+-- SPDX-License-Identifier: MIT
 -- GHASH (SP 800-38D §6.3 and §6.4). A block is a number below 2^128, its first bit the highest.
 -- Assumes nothing.
 use mathlib.Core.List.{List}

@@ -1,3 +1,4 @@
+// SPDX-License-Identifier: MIT
 // GHASH (SP 800-38D §6.4). A product of blocks is taken as one of polynomials, by nine products of 32 bits after
 // Karatsuba, and reduced. There is no table: no index and no branch depends on a block or on the hash key.
 use aes::BLOCK;

@@ -1,3 +1,4 @@
+-- SPDX-License-Identifier: MIT
 -- Unpacking a packed KID gives back its parts, whatever the widths. Assumes nothing.
 use mathlib.Core.Path.{_≡_, refl, sym, _∙_, ap}
 use Prim.Native.Nat.{ℕ, _+_, _*_, _/_, _%_, _^_, _<_}

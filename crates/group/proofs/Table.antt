@@ -1,3 +1,4 @@
+-- SPDX-License-Identifier: MIT
 -- The KIDs of RFC 9605, section 5.2, figure 8: six bits of index, four of epoch. Packed and unpacked. Assumes nothing.
 use mathlib.Core.Path.{_≡_, refl}
 use mathlib.Core.List.{List, [], _∷_}

@@ -1,3 +1,4 @@
+-- SPDX-License-Identifier: MIT
 -- KIDs of the members of an MLS group: RFC 9605, section 5.2. Context ID, sender index and the low bits of the epoch, one above the
 -- other in a number of 64 bits. S bits are the index's and E bits the epoch's.
 -- Assumes nothing.

@@ -1,3 +1,4 @@
+// SPDX-License-Identifier: MIT
 // KIDs of the members of an MLS group: RFC 9605, section 5.2. S bits are the sender index's, E bits the epoch's.
 ghost use mathlib.Core.Path.{_≡_};
 ghost use Prim.Native.Nat.{_+_, _*_, _/_, _%_, _^_, _≤_, _<_};

@@ -1,3 +1,4 @@
+// SPDX-License-Identifier: MIT
 // Runs one case, and counts whether it gave what is expected.
 use hmac::LARGEST;
 use hmac::hkdf_expand_sha256;

@@ -1,3 +1,4 @@
+// SPDX-License-Identifier: MIT
 // Runs the published vectors of SHA-2, HMAC and HKDF, and prints a line for each group.
 mod cases;
 mod vectors;

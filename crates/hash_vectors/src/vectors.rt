@@ -1,3 +1,4 @@
+// SPDX-License-Identifier: MIT
 // The published vectors. A case gives its input and, in hexadecimal, what is expected of it.
 use crate::cases::Tally;
 use crate::cases::count;

@@ -1,3 +1,4 @@
+-- SPDX-License-Identifier: MIT
 -- Laws of the header, for this crate's proofs and for those above it. Assumes nothing.
 use mathlib.Core.Path.{_≡_, refl, sym, _∙_, ap, ap₂}
 use mathlib.Core.Bool.{Bool, true, false}

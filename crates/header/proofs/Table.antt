@@ -1,3 +1,4 @@
+-- SPDX-License-Identifier: MIT
 -- Worked examples of the header, as one table: twelve vectors, written and read, and two longer forms that are read.
 -- Assumes nothing.
 use mathlib.Core.Path.{_≡_, refl}

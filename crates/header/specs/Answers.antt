@@ -1,3 +1,4 @@
+-- SPDX-License-Identifier: MIT
 -- The number and the values that each answer about a header stands for, as a caller outside the layer gets them.
 -- The numbers are the layer's own: 0 done, 10 header cut short, 12 room shorter than the result.
 -- Assumes nothing.

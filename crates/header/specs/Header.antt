@@ -1,3 +1,4 @@
+-- SPDX-License-Identifier: MIT
 -- The SFrame header, RFC 9605 section 4.3. A Key ID (KID) and a counter (CTR) are numbers of 64 bits.
 -- Assumes nothing.
 use mathlib.Core.List.{List, [], _∷_, _++_}

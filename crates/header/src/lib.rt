@@ -1,3 +1,4 @@
+// SPDX-License-Identifier: MIT
 // The SFrame header of RFC 9605, section 4.3: its writer and its reader.
 ghost use mathlib.Core.Path.{_≡_};
 ghost use Prim.Native.Nat.{_+_, _*_, _≤_, _<_};

@@ -1,3 +1,4 @@
+-- SPDX-License-Identifier: MIT
 -- Laws of HMAC and HKDF over the hash. Assumes nothing.
 use mathlib.Core.Path.{_≡_, refl, sym, _∙_}
 use mathlib.Core.List.{List, [], _∷_, _++_}

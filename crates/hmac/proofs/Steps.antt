@@ -1,3 +1,4 @@
+-- SPDX-License-Identifier: MIT
 -- What the code's steps come to, over plain lists and over the hash. Assumes nothing.
 use mathlib.Core.Path.{_≡_, refl, sym, _∙_, ap}
 use mathlib.Core.List.{List, [], _∷_, _++_, append-assoc, append-nil}

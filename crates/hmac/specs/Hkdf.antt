@@ -1,3 +1,4 @@
+-- SPDX-License-Identifier: MIT
 -- HKDF, RFC 5869, over a hash of the SHA-2 family. Assumes nothing.
 use mathlib.Core.List.{List, [], _∷_, _++_}
 use Prim.Native.Nat.{ℕ, zero, suc, _+_, _-_, _*_, _/_}

@@ -1,3 +1,4 @@
+-- SPDX-License-Identifier: MIT
 -- HMAC, RFC 2104, over a hash of the SHA-2 family. B is the hash's block. Assumes nothing.
 use mathlib.Core.List.{List, _++_}
 use Prim.Native.Nat.{ℕ, _-_}

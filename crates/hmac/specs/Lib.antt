@@ -1,3 +1,4 @@
+-- SPDX-License-Identifier: MIT
 pub mod Hmac
 pub mod Hkdf
 pub mod Limits

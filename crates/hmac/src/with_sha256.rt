@@ -1,3 +1,4 @@
+// SPDX-License-Identifier: MIT
 // HMAC-SHA-256 and HKDF-SHA-256.
 use crate::IPAD;
 use crate::OPAD;

@@ -1,3 +1,4 @@
+// SPDX-License-Identifier: MIT
 // HMAC-SHA-512 and HKDF-SHA-512.
 use crate::IPAD;
 use crate::OPAD;

@@ -1,3 +1,4 @@
+-- SPDX-License-Identifier: MIT
 -- Strings written one after the other. Assumes nothing.
 use mathlib.Core.Path.{_≡_, _∙_, ap, ap₂}
 use mathlib.Core.List.{List, _++_, append-assoc, append-nil}

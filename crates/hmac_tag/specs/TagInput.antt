@@ -1,3 +1,4 @@
+-- SPDX-License-Identifier: MIT
 -- What the tag of the suites of counter mode is computed over: RFC 9605, section 4.5.1. Assumes nothing.
 use mathlib.Core.List.{List, _++_}
 use Prim.Native.Nat.{ℕ}

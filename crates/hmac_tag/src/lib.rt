@@ -1,3 +1,4 @@
+// SPDX-License-Identifier: MIT
 // The tag of the suites of counter mode: RFC 9605, section 4.5.1.
 ghost use mathlib.Core.Path.{_≡_};
 ghost use mathlib.Core.List.{_++_};

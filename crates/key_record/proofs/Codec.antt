@@ -1,3 +1,4 @@
+-- SPDX-License-Identifier: MIT
 -- A record written is read back, and what obeys its row is a record in range. Assumes nothing.
 use mathlib.Core.Path.{_≡_, refl, sym, _∙_, ap}
 use mathlib.Core.Bool.{true}

@@ -1,3 +1,4 @@
+-- SPDX-License-Identifier: MIT
 -- What a record's kind and its KID say of it. Assumes nothing.
 use mathlib.Core.Path.{_≡_, refl, sym, _∙_, ap₂}
 use mathlib.Core.Bool.{Bool, true, false, false≢true}

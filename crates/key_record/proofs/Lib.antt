@@ -1,3 +1,4 @@
+-- SPDX-License-Identifier: MIT
 pub mod Codec
 mod Fields
 mod Judge

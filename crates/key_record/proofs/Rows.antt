@@ -1,3 +1,4 @@
+-- SPDX-License-Identifier: MIT
 -- The bytes of a record obey their row just where the tests of them pass. Assumes nothing.
 use mathlib.Core.Path.{_≡_, refl, sym, _∙_, ap, ap₂}
 use mathlib.Core.Bool.{Bool, true, false, false≢true}

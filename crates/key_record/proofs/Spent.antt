@@ -1,3 +1,4 @@
+-- SPDX-License-Identifier: MIT
 -- A next counter in its two fields, and back. Assumes nothing.
 use mathlib.Core.Path.{_≡_, sym, _∙_, ap}
 use mathlib.Core.Bool.{Bool, true, false, not}

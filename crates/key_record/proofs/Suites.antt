@@ -1,3 +1,4 @@
+-- SPDX-License-Identifier: MIT
 -- The suites by number. Assumes nothing.
 use mathlib.Core.Path.{_≡_, refl}
 use mathlib.Core.Bool.{true, false, false≢true}

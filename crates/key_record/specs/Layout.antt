@@ -1,3 +1,4 @@
+-- SPDX-License-Identifier: MIT
 -- The layout: a record's form in bytes, and when bytes obey it. Only this file knows where a field stands.
 -- Assumes nothing.
 use mathlib.Core.Path.{_≡_}

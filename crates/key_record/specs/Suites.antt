@@ -1,3 +1,4 @@
+-- SPDX-License-Identifier: MIT
 -- The cipher suites of RFC 9605, section 4.5, by number, as the store knows them: all of it is read off the table in
 -- crates/suites/specs/Suites.antt. Assumes nothing.
 use mathlib.Core.Bool.{Bool, true, false}

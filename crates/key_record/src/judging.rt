@@ -1,3 +1,4 @@
+// SPDX-License-Identifier: MIT
 // Judging one record's bytes: whether they obey their row.
 ghost use mathlib.Core.Path.{_≡_};
 ghost use mathlib.Core.Bool.{true};

@@ -1,3 +1,4 @@
+// SPDX-License-Identifier: MIT
 // One record of the key store: 96 bytes, and what they are as a record. Nobody outside this crate knows where a field stands.
 pub mod judging;
 pub mod row;

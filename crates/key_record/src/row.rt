@@ -1,3 +1,4 @@
+// SPDX-License-Identifier: MIT
 // One record's bytes, read and written as the record that they are.
 ghost use mathlib.Core.Path.{_≡_};
 ghost use mathlib.Core.Bool.{true, false};

@@ -1,3 +1,4 @@
+-- SPDX-License-Identifier: MIT
 mod Ledger
 mod Objects
 mod Opens

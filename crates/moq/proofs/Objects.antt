@@ -1,3 +1,4 @@
+-- SPDX-License-Identifier: MIT
 -- From what every list of calls keeps true to the claims about its sealed objects. Assumes nothing.
 use mathlib.Core.Path.{_≡_, refl, sym, _∙_, ap, ap₂}
 use mathlib.Core.Bool.{Bool, true, false, false≢true}

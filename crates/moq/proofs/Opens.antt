@@ -1,3 +1,4 @@
+-- SPDX-License-Identifier: MIT
 -- Opening succeeds exactly when the bytes are the draft's encryption of some plaintext, and yields that plaintext. Assumes nothing.
 use mathlib.Core.Path.{_≡_, refl, sym, _∙_, ap, ap₂}
 use mathlib.Core.Bool.{Bool, true, false, not, false≢true}

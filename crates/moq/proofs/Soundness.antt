@@ -1,3 +1,4 @@
+-- SPDX-License-Identifier: MIT
 -- A track store that is made is sound, every call leaves a sound one sound, and a refusal changes nothing. Assumes nothing.
 use mathlib.Core.Path.{_≡_, refl}
 use mathlib.Core.Bool.{true}

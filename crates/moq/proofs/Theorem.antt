@@ -1,3 +1,4 @@
+-- SPDX-License-Identifier: MIT
 -- The theorems of the sealing of MoQ objects, over the definitions that its calls are proved to follow. Each statement's words stand in
 -- specs/Promises.
 -- Assumes nothing.

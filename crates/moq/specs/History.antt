@@ -1,3 +1,4 @@
+-- SPDX-License-Identifier: MIT
 -- A track store from making to making: a list of calls on the store that a Make leaves, and what it yields.
 -- Assumes nothing.
 use mathlib.Core.List.{List, [], _∷_}

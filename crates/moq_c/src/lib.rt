@@ -1,3 +1,4 @@
+// SPDX-License-Identifier: MIT
 // The C interface of the sealing of MoQ objects. Each function does nothing but call the layer and hand its answer over: the
 // result is the answer's number, and lengths go through pointers. A slice passes as a pointer and then a length. include/moq.h
 // declares what stands here.

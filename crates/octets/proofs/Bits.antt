@@ -1,3 +1,4 @@
+-- SPDX-License-Identifier: MIT
 -- Laws of XOR and OR on numbers. Assumes nothing.
 use mathlib.Core.Path.{_≡_, refl, sym, _∙_, ap}
 use Prim.Native.Nat.{ℕ, zero, suc, _+_, _*_, _/_, _%_, _<_}

@@ -1,3 +1,4 @@
+-- SPDX-License-Identifier: MIT
 -- A rule that holds at each entry of a table, from one test that is computed over the whole table.
 -- Assumes nothing.
 use mathlib.Core.Path.{_≡_, refl, ap, sym, _∙_}

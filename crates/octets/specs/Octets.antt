@@ -1,3 +1,4 @@
+-- SPDX-License-Identifier: MIT
 -- Bytes and lists of bytes. A byte string is a list of numbers below 256, its first byte at index 0.
 -- Assumes nothing.
 use mathlib.Core.Bool.{Bool, true, false}

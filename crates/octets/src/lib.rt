@@ -1,3 +1,4 @@
+// SPDX-License-Identifier: MIT
 // Big-endian numbers in bytes, and copying, clearing, comparing and combining slices of bytes.
 ghost use mathlib.Core.Path.{_≡_};
 ghost use mathlib.Core.List.{_++_};

@@ -1,2 +1,3 @@
+-- SPDX-License-Identifier: MIT
 mod OpenSteps
 pub mod Opened

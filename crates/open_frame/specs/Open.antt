@@ -1,3 +1,4 @@
+-- SPDX-License-Identifier: MIT
 -- Opening a frame: number, length, store and room afterwards, for every input. The causes of refusal stand in the order in
 -- which they are tried.
 -- Assumes nothing.

@@ -1,3 +1,4 @@
+// SPDX-License-Identifier: MIT
 // Opening a frame. Each step goes on with what it finds, or returns its own refusal, in the order 1, 10, 6, 7, 11, 9,
 // 12, 14, 15, 13.
 ghost use mathlib.Core.Path.{_≡_};

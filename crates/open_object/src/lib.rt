@@ -1,3 +1,4 @@
+// SPDX-License-Identifier: MIT
 // Opening an object. Each step goes on with what it finds, or returns its own refusal, in the order 1, 6, 7, 25, 11, 9, 12, 13.
 use answers::Answer;
 use answers::DONE;

@@ -1,3 +1,4 @@
+-- SPDX-License-Identifier: MIT
 pub mod Repeats
 mod Gathering
 mod Writing

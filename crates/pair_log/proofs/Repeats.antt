@@ -1,3 +1,4 @@
+-- SPDX-License-Identifier: MIT
 -- The listed pairs are exactly the repeated ones, in rising order. Assumes nothing.
 use mathlib.Core.Path.{_≡_, refl, sym, _∙_, ap}
 use mathlib.Core.Bool.{Bool, true, false, false≢true}

@@ -1,3 +1,4 @@
+-- SPDX-License-Identifier: MIT
 pub mod Pairs
 pub mod Report
 pub mod inner

@@ -1,3 +1,4 @@
+-- SPDX-License-Identifier: MIT
 -- The pairs of a log of sealings, and those that stand in it twice or more. Assumes nothing.
 use mathlib.Core.Bool.{Bool, true, false}
 use mathlib.Core.List.{List, [], _∷_}

@@ -1,3 +1,4 @@
+-- SPDX-License-Identifier: MIT
 -- What is reported of a log, to the byte. Assumes nothing.
 use mathlib.Core.List.{List, [], _∷_, _++_}
 use Prim.Native.Nat.{ℕ, zero, suc, _+_, _/_, _%_, _^_}

@@ -1,3 +1,4 @@
+// SPDX-License-Identifier: MIT
 // A log of sealings, records of 16 bytes, and the pairs of KID and counter that stand in it twice or more.
 ghost use mathlib.Core.Path.{_≡_};
 ghost use mathlib.Core.List.{[], _∷_, _++_};

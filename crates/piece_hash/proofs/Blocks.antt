@@ -1,3 +1,4 @@
+-- SPDX-License-Identifier: MIT
 -- Laws of GHASH over whole blocks. Assumes nothing.
 use mathlib.Core.Path.{_≡_, refl, sym, _∙_, ap, ap₂}
 use mathlib.Core.List.{List, [], _++_}

@@ -1,3 +1,4 @@
+-- SPDX-License-Identifier: MIT
 -- Running hashes in bytes: read back, fed twice, ended. Assumes nothing.
 use mathlib.Core.Path.{_≡_, refl, sym, _∙_, ap, ap₂}
 use mathlib.Core.List.{List, [], _∷_, _++_, append-nil, append-assoc}

@@ -1,3 +1,4 @@
+-- SPDX-License-Identifier: MIT
 mod Steps
 pub mod Blocks
 pub mod Joins

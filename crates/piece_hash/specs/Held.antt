@@ -1,3 +1,4 @@
+-- SPDX-License-Identifier: MIT
 -- Running hashes held in 96 bytes: a value in 32 bytes, and a room of 64 for the bytes that wait for the rest of their block.
 -- Assumes nothing.
 use mathlib.Core.List.{List, [], _∷_, _++_}

@@ -1,3 +1,4 @@
+// SPDX-License-Identifier: MIT
 // Running hashes in 96 lent bytes: SHA-256, and GHASH over whole blocks. The first 32 hold the value, the others the bytes that
 // wait for the rest of their block.
 use ghash::Block;

@@ -1,3 +1,4 @@
+-- SPDX-License-Identifier: MIT
 -- Laws of counter mode from any byte on: however the bytes are cut, and batch by batch.
 -- Assumes nothing.
 use mathlib.Core.Path.{_≡_, refl, ap, ap₂, sym, _∙_}

@@ -1,3 +1,4 @@
+// SPDX-License-Identifier: MIT
 // Counter mode from any byte of the key stream on, sixteen blocks at a time.
 use aes_batch::BYTES;
 use aes_keys::Context;

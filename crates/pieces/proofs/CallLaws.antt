@@ -1,3 +1,4 @@
+-- SPDX-License-Identifier: MIT
 -- The calls of a line from its beginning on: what they answer and leave, and that nothing changes where they refuse.
 -- Assumes nothing.
 use mathlib.Core.Path.{_≡_, refl, sym, _∙_, ap, ap₂}

@@ -1,3 +1,4 @@
+-- SPDX-License-Identifier: MIT
 -- The steps of the calls on a running state, over plain variables. Assumes nothing.
 use mathlib.Core.Path.{_≡_, refl, sym, _∙_, ap}
 use mathlib.Core.Bool.{Bool, true, false, not}

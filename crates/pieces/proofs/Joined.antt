@@ -1,3 +1,4 @@
+-- SPDX-License-Identifier: MIT
 -- Two pieces are as one, over every possible state, whatever its bytes. Assumes nothing.
 use mathlib.Core.Path.{_≡_, refl, sym, _∙_, ap, ap₂}
 use mathlib.Core.List.{List, [], _∷_, _++_, append-assoc}

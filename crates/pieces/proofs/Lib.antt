@@ -1,3 +1,4 @@
+-- SPDX-License-Identifier: MIT
 mod Steps
 mod Begins
 mod CallSteps

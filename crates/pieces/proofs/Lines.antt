@@ -1,3 +1,4 @@
+-- SPDX-License-Identifier: MIT
 -- A line of calls from its beginning on: however the ciphertext is cut, the state is that after all of it, the ciphertext is
 -- that of the whole plaintext, and the tag is that of the frame. Assumes nothing.
 use mathlib.Core.Path.{_≡_, refl, sym, _∙_, ap, ap₂}

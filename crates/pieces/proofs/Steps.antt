@@ -1,3 +1,4 @@
+-- SPDX-License-Identifier: MIT
 -- What the code of a line comes to, over plain variables. Assumes nothing.
 use mathlib.Core.Path.{_≡_, refl, sym, _∙_, ap, ap₂, subst}
 use mathlib.Core.Bool.{Bool, true, false, not}

@@ -1,3 +1,4 @@
+-- SPDX-License-Identifier: MIT
 -- The calls on a running state: number, length, state and room afterwards, for every input. The causes of refusal stand in
 -- the order in which they are tried.
 -- Assumes nothing.

@@ -1,3 +1,4 @@
+-- SPDX-License-Identifier: MIT
 pub mod State
 pub mod Line
 pub mod Calls

@@ -1,3 +1,4 @@
+-- SPDX-License-Identifier: MIT
 -- A line of calls: the state that it begins with, what a piece makes of the state, and the tag: RFC 9605, sections 4.4.3 and 4.5.
 -- Assumes nothing.
 use mathlib.Core.List.{List, [], _∷_, _++_}

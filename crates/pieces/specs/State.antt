@@ -1,3 +1,4 @@
+-- SPDX-License-Identifier: MIT
 -- The running state of a frame in pieces, 168 bytes that the caller lends. What changes stands last.
 -- Assumes nothing.
 use mathlib.Core.Bool.{Bool}

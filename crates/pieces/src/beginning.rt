@@ -1,3 +1,4 @@
+// SPDX-License-Identifier: MIT
 // The state that a line begins with.
 use crate::line::hash_key;
 use crate::state::AAD;

@@ -1,3 +1,4 @@
+// SPDX-License-Identifier: MIT
 // A frame in pieces, without a store: the running state, and the calls on it. The causes are tried in the order 16, 12 where
 // sealing, and 16, 11, 13 where checking.
 mod beginning;

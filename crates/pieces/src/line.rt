@@ -1,3 +1,4 @@
+// SPDX-License-Identifier: MIT
 // What a line of calls does to its state: the running hash, the ciphertext of a piece, the tag.
 use crate::state::HASH;
 use crate::state::KEY;

@@ -1,3 +1,4 @@
+// SPDX-License-Identifier: MIT
 // The running state: where its fields stand, and which states are possible.
 use answers::MAX_METADATA;
 use answers::MAX_PLAINTEXT;

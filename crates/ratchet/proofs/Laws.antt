@@ -1,3 +1,4 @@
+-- SPDX-License-Identifier: MIT
 -- Laws of the ratchet. Assumes nothing.
 use mathlib.Core.Path.{_≡_, refl, sym, _∙_, ap}
 use mathlib.Core.List.{List}

@@ -1,3 +1,4 @@
+-- SPDX-License-Identifier: MIT
 -- The two calls of the ratchet: number, result and room afterwards, for every input. The causes of refusal stand in the order in
 -- which they are tried. Assumes nothing.
 use mathlib.Core.Bool.{Bool, true, false, not}

@@ -1,3 +1,4 @@
+-- SPDX-License-Identifier: MIT
 pub mod Ratchet
 pub mod Calls
 pub mod inner

@@ -1,3 +1,4 @@
+-- SPDX-License-Identifier: MIT
 -- Sender keys that are ratcheted forward: RFC 9605, section 5.1. Assumes nothing.
 use mathlib.Core.List.{List}
 use Prim.Native.Nat.{ℕ, zero, suc, _+_, _*_, _%_, _^_}

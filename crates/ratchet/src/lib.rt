@@ -1,3 +1,4 @@
+// SPDX-License-Identifier: MIT
 // Sender keys that are ratcheted forward: RFC 9605, section 5.1. The walk of a base key, and the KID of a generation and
 // a step.
 ghost use mathlib.Core.Path.{_≡_};

@@ -1,3 +1,4 @@
+-- SPDX-License-Identifier: MIT
 pub mod Listed
 mod Lives
 mod Moves

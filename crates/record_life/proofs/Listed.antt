@@ -1,3 +1,4 @@
+-- SPDX-License-Identifier: MIT
 -- What a Seal and a Begin make under a record is made from the inputs that they list, the hash key's, and no others. Assumes nothing.
 use mathlib.Core.Path.{_≡_, refl, sym, _∙_, ap, subst}
 use mathlib.Core.Bool.{Bool, true}

@@ -1,3 +1,4 @@
+-- SPDX-License-Identifier: MIT
 -- What is listed after a record: each input once, with nonces of counters that the record has not used. Assumes nothing.
 use mathlib.Core.Path.{_≡_, refl, sym, _∙_, ap}
 use mathlib.Core.Bool.{true}

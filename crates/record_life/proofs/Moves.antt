@@ -1,3 +1,4 @@
+-- SPDX-License-Identifier: MIT
 -- Each call, and the record of a KID. Assumes nothing.
 use mathlib.Core.Path.{_≡_, refl, sym, _∙_, ap}
 use mathlib.Core.Bool.{Bool, true, false, false≢true}

@@ -1,3 +1,4 @@
+-- SPDX-License-Identifier: MIT
 -- Every cipher block once: no two of the inputs that are listed under one sending record are equal. Assumes nothing.
 use mathlib.Core.Path.{_≡_, refl, sym, _∙_, ap}
 use mathlib.Core.Bool.{true}

@@ -1,3 +1,4 @@
+-- SPDX-License-Identifier: MIT
 -- The inputs of AES over a list of calls, under one KID: those of each sealing that is begun, at its beginning, with the record that the
 -- store holds then, and that of the hash key where the record's life begins. A piece and an end list none.
 -- Assumes nothing.

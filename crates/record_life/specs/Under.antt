@@ -1,3 +1,4 @@
+-- SPDX-License-Identifier: MIT
 -- What a Seal and a Begin make under a record, over any block function in the place of AES: RFC 9605, section 4.4.3. Assumes nothing.
 use mathlib.Core.List.{List, [], _++_}
 use Prim.Native.Nat.{ℕ}

@@ -1,3 +1,4 @@
+-- SPDX-License-Identifier: MIT
 -- Reporting how many of the last 64 counters were opened with a receiving key: number, count and store afterwards, for every
 -- input. The causes of refusal stand in the order in which they are tried.
 -- Assumes nothing.

@@ -1,3 +1,4 @@
+// SPDX-License-Identifier: MIT
 // How many of the last 64 counters were opened with a receiving key. The causes are tried in the order 1, 6, 7.
 ghost use mathlib.Core.Path.{_≡_};
 ghost use Rattle.report_window.specs.Report.{report, reported};

@@ -1,3 +1,4 @@
+-- SPDX-License-Identifier: MIT
 -- What the walks of this crate share, over any state type: the contracts of the functions, by value and lent, and the types in their MIR.
 -- Assumes nothing.
 use Prim.Native.Nat.{ℕ}

@@ -1,3 +1,4 @@
+-- SPDX-License-Identifier: MIT
 -- Feeding a lent state, over any state type: the borrow is opened, the state is copied out and fed by value, what comes back is stored, and the borrow is closed at it.
 -- A walk of the MIR, by hand. All that it knows of the function by value is that it meets its contract.
 -- Assumes nothing.

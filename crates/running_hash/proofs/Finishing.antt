@@ -1,3 +1,4 @@
+-- SPDX-License-Identifier: MIT
 -- Finishing a lent state, over any state type: the borrow is opened, the digest is taken of a copy of the state, a new state is stored, and the borrow is closed at it.
 -- A walk of the MIR, by hand. All that it knows of the two functions by value is that they meet their contracts.
 -- Assumes nothing.

@@ -1,3 +1,4 @@
+-- SPDX-License-Identifier: MIT
 mod Contracts
 mod Feeding
 mod Finishing

@@ -1,3 +1,4 @@
+-- SPDX-License-Identifier: MIT
 -- The digest of two pieces, over any state type: a new state in a local is lent three times, to be fed each piece and to be finished.
 -- A walk of the MIR, by hand. Each loan is for a lifetime that is made for the call; at its end the state is taken back at its last value.
 -- All that the walk knows of the three functions is that they meet their contracts.

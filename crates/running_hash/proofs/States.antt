@@ -1,3 +1,4 @@
+-- SPDX-License-Identifier: MIT
 -- What the contracts say of a state, once for both hashes, and what they give together for two pieces. Assumes nothing.
 use mathlib.Core.Path.{_≡_}
 use mathlib.Core.List.{List, [], _++_}

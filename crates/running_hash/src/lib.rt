@@ -1,3 +1,4 @@
+// SPDX-License-Identifier: MIT
 // Hash states behind `&mut`: thin functions over those of sha256 and sha512, and above them the digest of two pieces, for callers without
 // a state of their own.
 use sha256::Sha256;

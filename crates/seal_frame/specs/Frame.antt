@@ -1,3 +1,4 @@
+-- SPDX-License-Identifier: MIT
 -- The frame of RFC 9605, section 4.4.3: header, ciphertext, tag. The associated data is the header, then the metadata.
 -- Assumes nothing.
 use mathlib.Core.List.{List, _++_}

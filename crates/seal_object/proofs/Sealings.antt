@@ -1,3 +1,4 @@
+-- SPDX-License-Identifier: MIT
 -- What sealing does to the table and to the room. Assumes nothing.
 use mathlib.Core.Path.{_≡_, refl, sym, _∙_, ap, ap₂}
 use mathlib.Core.Bool.{Bool, true, false, false≢true}

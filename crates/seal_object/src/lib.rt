@@ -1,3 +1,4 @@
+// SPDX-License-Identifier: MIT
 // Sealing an object. The causes are tried in the order 1, 6, 7, 25, 24, 9, 12.
 use answers::Answer;
 use answers::DONE;

@@ -1,3 +1,4 @@
+-- SPDX-License-Identifier: MIT
 -- Key and salt of a track: "Key Derivation" of draft-ietf-moq-secure-objects. moq_secret is HKDF-Extract with an empty salt over
 -- the base key, as SFrame's is. Assumes nothing.
 use mathlib.Core.List.{List, _++_}

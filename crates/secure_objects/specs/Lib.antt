@@ -1,3 +1,4 @@
+-- SPDX-License-Identifier: MIT
 pub mod Varint
 pub mod Objects
 pub mod Derivation

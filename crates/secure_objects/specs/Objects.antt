@@ -1,3 +1,4 @@
+-- SPDX-License-Identifier: MIT
 -- A secure object of draft-ietf-moq-secure-objects: what the AEAD is given, and what comes out. The draft's sections have no
 -- numbers in the text that decides here; they are named. Assumes nothing.
 use mathlib.Core.List.{List, _++_}

@@ -1,3 +1,4 @@
+-- SPDX-License-Identifier: MIT
 -- The variable-length integers of the draft's associated data, its "(i)": RFC 9000, section 16, in the fewest bytes. The two top
 -- bits of the first byte tell the length: 1, 2, 4 or 8 bytes.
 --

@@ -1,3 +1,4 @@
+// SPDX-License-Identifier: MIT
 // Key and salt of a track.
 ghost use mathlib.Core.Path.{_≡_};
 ghost use Prim.Native.Nat.{_+_, _≤_};

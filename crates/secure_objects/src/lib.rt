@@ -1,3 +1,4 @@
+// SPDX-License-Identifier: MIT
 // Secure objects of draft-ietf-moq-secure-objects: key derivation, associated data, nonce, encryption and decryption, over the
 // AEAD and the HKDF of the suites.
 pub mod derivation;

@@ -1,3 +1,4 @@
+// SPDX-License-Identifier: MIT
 // Encryption and decryption of an object.
 ghost use mathlib.Core.Path.{_≡_};
 ghost use mathlib.Core.List.{_++_, []};

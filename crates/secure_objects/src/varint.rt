@@ -1,3 +1,4 @@
+// SPDX-License-Identifier: MIT
 // Variable-length integers: RFC 9000, section 16, and ff with 8 bytes from 2^62 on.
 ghost use mathlib.Core.Path.{_≡_};
 ghost use Prim.Native.Nat.{_+_, _≤_};

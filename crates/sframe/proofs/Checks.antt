@@ -1,3 +1,4 @@
+-- SPDX-License-Identifier: MIT
 -- A check in pieces says yes exactly to the RFC's frames. Assumes nothing.
 use mathlib.Core.Path.{_≡_, refl, sym, _∙_, ap, ap₂, subst}
 use mathlib.Core.Bool.{Bool, true, false, not}

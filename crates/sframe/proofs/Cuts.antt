@@ -1,3 +1,4 @@
+-- SPDX-License-Identifier: MIT
 -- However a sealing is cut, its frame is the whole one; and a check in pieces says yes exactly to the RFC's frames. Assumes nothing.
 use mathlib.Core.Path.{_≡_, refl, sym, _∙_, ap, ap₂, subst}
 use mathlib.Core.Bool.{Bool, true, false, not}

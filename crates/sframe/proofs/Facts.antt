@@ -1,3 +1,4 @@
+-- SPDX-License-Identifier: MIT
 -- What is known of each sealing begun, with the events before it. Assumes nothing.
 use mathlib.Core.Path.{_≡_, refl, sym, _∙_, ap}
 use mathlib.Core.Bool.{Bool, true}

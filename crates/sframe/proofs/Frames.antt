@@ -1,3 +1,4 @@
+-- SPDX-License-Identifier: MIT
 -- From what every list of calls keeps true to the claims about its sealed frames. Assumes nothing.
 use mathlib.Core.Path.{_≡_, refl, sym, _∙_, ap}
 use mathlib.Core.List.{List, [], _∷_, _++_, append-nil, append-assoc}

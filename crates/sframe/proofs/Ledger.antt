@@ -1,3 +1,4 @@
+-- SPDX-License-Identifier: MIT
 -- What every list of calls keeps true of the store and of the events so far. Assumes nothing.
 use mathlib.Core.Path.{_≡_, refl, sym, _∙_, ap, subst}
 use mathlib.Core.Bool.{Bool, true, false, false≢true}

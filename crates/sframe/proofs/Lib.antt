@@ -1,3 +1,4 @@
+-- SPDX-License-Identifier: MIT
 mod Checks
 mod Cuts
 mod Facts

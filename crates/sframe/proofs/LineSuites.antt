@@ -1,3 +1,4 @@
+-- SPDX-License-Identifier: MIT
 -- The five suites have the laws that the ledger uses of sealing in pieces. Assumes nothing.
 use mathlib.Core.Path.{_≡_, refl, sym, _∙_, ap, ap₂, subst}
 use mathlib.Core.Bool.{Bool, true, false}

@@ -1,3 +1,4 @@
+-- SPDX-License-Identifier: MIT
 -- What a call of a line keeps of the events before it. Assumes nothing.
 use mathlib.Core.Path.{_≡_, refl, ap, sym, _∙_, subst}
 use mathlib.Core.Bool.{Bool, true, false, false≢true}

@@ -1,3 +1,4 @@
+-- SPDX-License-Identifier: MIT
 -- From what every list of calls keeps true to the report of a log of its sealings. Assumes nothing.
 use mathlib.Core.Path.{_≡_, refl, sym, _∙_, ap}
 use mathlib.Core.Bool.{false}

@@ -1,3 +1,4 @@
+-- SPDX-License-Identifier: MIT
 -- Sealing or opening under a KID depends on other records only through soundness, and changes none of them. Assumes nothing.
 use mathlib.Core.Path.{_≡_, refl, sym, _∙_, ap, ap₂}
 use mathlib.Core.Bool.{true, false≢true}

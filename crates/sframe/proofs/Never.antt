@@ -1,3 +1,4 @@
+-- SPDX-License-Identifier: MIT
 -- What no Add of a list is: one of a KID that was added for sending before, or one for sending with the barred suite. Assumes nothing.
 use mathlib.Core.Path.{_≡_, refl, sym, _∙_, ap}
 use mathlib.Core.Bool.{Bool, true, false}

@@ -1,3 +1,4 @@
+-- SPDX-License-Identifier: MIT
 -- No frame is opened twice under one Add: the window of a receiving record tells every counter that was opened since the record was
 -- added, as opened or as too old. Assumes nothing.
 use mathlib.Core.Path.{_≡_, refl, sym, _∙_, ap}

@@ -1,3 +1,4 @@
+-- SPDX-License-Identifier: MIT
 -- Opening succeeds exactly when the frame is the RFC's encryption of some plaintext with the header that was received, and yields that
 -- plaintext. Assumes nothing.
 use mathlib.Core.Path.{_≡_, refl, sym, _∙_, ap}

@@ -1,3 +1,4 @@
+-- SPDX-License-Identifier: MIT
 -- A call on a running state that is refused changes nothing. Assumes nothing.
 use mathlib.Core.Path.{_≡_, refl, sym, _∙_, ap}
 use mathlib.Core.List.{List, []}

@@ -1,3 +1,4 @@
+-- SPDX-License-Identifier: MIT
 -- A store that is made is sound, every call leaves a sound store sound, and a refusal changes nothing. Assumes nothing.
 use mathlib.Core.Path.{_≡_, refl, sym, _∙_, ap}
 use mathlib.Core.Bool.{Bool, true}

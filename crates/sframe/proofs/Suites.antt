@@ -1,3 +1,4 @@
+-- SPDX-License-Identifier: MIT
 -- The five suites have the laws that the store and its calls use of a cipher. Assumes nothing.
 use mathlib.Core.Path.{_≡_, ap}
 use mathlib.Core.Bool.{true}

@@ -1,3 +1,4 @@
+-- SPDX-License-Identifier: MIT
 -- The theorems of the layer, over the definitions that its calls are proved to follow, with the five suites in place. Each statement's
 -- words stand in specs/Promises.
 -- Assumes nothing.

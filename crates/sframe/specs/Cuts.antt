@@ -1,3 +1,4 @@
+-- SPDX-License-Identifier: MIT
 -- A sealing, and a check, cut into pieces: what the calls of its line leave and give. Assumes nothing.
 use mathlib.Core.Path.{_≡_}
 use mathlib.Core.List.{List, [], _∷_, _++_}

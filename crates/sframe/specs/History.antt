@@ -1,3 +1,4 @@
+-- SPDX-License-Identifier: MIT
 -- A store from making to making: a list of calls on the store that a Make leaves, and what it yields.
 -- Assumes nothing.
 use mathlib.Core.Bool.{Bool, true, false}

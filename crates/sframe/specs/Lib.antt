@@ -1,3 +1,4 @@
+-- SPDX-License-Identifier: MIT
 pub mod History
 pub mod Promises
 pub mod Logs

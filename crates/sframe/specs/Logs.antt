@@ -1,3 +1,4 @@
+-- SPDX-License-Identifier: MIT
 -- A log of sealings: of each, one record of its KID and counter. Assumes nothing.
 use mathlib.Core.Path.{_≡_}
 use mathlib.Core.List.{List, [], _∷_, _++_}

@@ -1,3 +1,4 @@
+// SPDX-License-Identifier: MIT
 // The C interface. Each function does nothing but call the layer and hand its answer over: the
 // result is the answer's number, and lengths and values go through pointers. A slice passes as a
 // pointer and then a length. include/sframe.h declares what stands here.

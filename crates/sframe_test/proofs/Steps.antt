@@ -1,3 +1,4 @@
+-- SPDX-License-Identifier: MIT
 -- What the tests leave, over plain variables. Assumes nothing.
 use mathlib.Core.Path.{_≡_, ap, _∙_}
 use mathlib.Core.List.{List, _++_, append-nil}

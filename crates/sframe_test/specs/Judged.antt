@@ -1,3 +1,4 @@
+-- SPDX-License-Identifier: MIT
 -- What the functions exported for tests take, and what they answer. Assumes nothing.
 use mathlib.Core.Path.{_≡_}
 use mathlib.Core.Bool.{Bool, true, false}

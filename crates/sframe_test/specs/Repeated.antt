@@ -1,3 +1,4 @@
+-- SPDX-License-Identifier: MIT
 -- A function applied n times over. Assumes nothing.
 use mathlib.Core.List.{List}
 use Prim.Native.Nat.{ℕ, zero, suc}

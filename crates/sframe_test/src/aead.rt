@@ -1,3 +1,4 @@
+// SPDX-License-Identifier: MIT
 // AES, counter mode, GHASH and GCM. Each function judges its input: it answers 0 and writes its result to the front of
 // out, or it answers 1 and changes nothing.
 ghost use mathlib.Core.Path.{_≡_};

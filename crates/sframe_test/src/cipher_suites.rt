@@ -1,3 +1,4 @@
+// SPDX-License-Identifier: MIT
 // The suites: key derivation, encryption and decryption. Each function judges its input: it answers 0 with its results
 // written, or it answers 1, or 13 for a tag that differs, and changes nothing.
 ghost use mathlib.Core.Path.{_≡_};

@@ -1,3 +1,4 @@
+// SPDX-License-Identifier: MIT
 // Hashes and derived keys for tests. Each exported function judges its input: it answers 0 and writes
 // the result to the front of the output, or it answers 1 and changes nothing. A message is fed in
 // three pieces, which end at first, at second and at its own end.

@@ -1,3 +1,4 @@
+// SPDX-License-Identifier: MIT
 // Tests of inputs that several functions share.
 ghost use Rattle.sframe_test.specs.Judged.{Tells, AesKey, Parts};
 use suites::sizes::Aes128CtrHmacSha256Tag80;

@@ -1,3 +1,4 @@
+-- SPDX-License-Identifier: MIT
 -- Laws of the bitwise functions: the shorter forms that the code computes. Assumes nothing.
 use mathlib.Core.Path.{_≡_, refl, ap, sym, _∙_}
 use Prim.Native.Nat.{ℕ, zero, suc, _+_, _*_, _-_, _/_, _%_, _^_, _<_, _≤_, min}

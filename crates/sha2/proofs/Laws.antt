@@ -1,3 +1,4 @@
+-- SPDX-License-Identifier: MIT
 -- Laws of SHA-2 over its parameters: blocks that are chained, a message fed in pieces, padding.
 -- Assumes nothing.
 use mathlib.Core.Path.{_≡_, refl, sym, _∙_, ap, subst}

@@ -1,3 +1,4 @@
+-- SPDX-License-Identifier: MIT
 pub mod Bits
 pub mod Laws
 pub mod Steps

@@ -1,3 +1,4 @@
+-- SPDX-License-Identifier: MIT
 -- What the loops and the straight runs of code come to, over the parameters. Assumes nothing.
 use mathlib.Core.Path.{_≡_, refl, sym, _∙_, ap}
 use mathlib.Core.List.{List, [], _∷_, _++_, append-assoc, append-nil}

@@ -1,3 +1,4 @@
+-- SPDX-License-Identifier: MIT
 pub mod Sha2
 pub mod Sizes
 pub mod Limits

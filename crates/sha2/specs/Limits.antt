@@ -1,3 +1,4 @@
+-- SPDX-License-Identifier: MIT
 -- How much the code takes. Assumes nothing.
 use Prim.Native.Nat.{ℕ, _^_}
 

@@ -1,3 +1,4 @@
+-- SPDX-License-Identifier: MIT
 -- The Secure Hash Standard, FIPS 180-4: SHA-2 as one definition over a record of parameters.
 -- A byte string is a list of bytes, a hash value a list of eight words. Section numbers are the standard's;
 -- where it has one section for words of 32 bits and one for 64, both are given.

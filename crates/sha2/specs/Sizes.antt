@@ -1,3 +1,4 @@
+-- SPDX-License-Identifier: MIT
 -- The parameters of SHA-256 and SHA-512, FIPS 180-4. Assumes nothing.
 use mathlib.Core.List.{List, [], _∷_}
 use Prim.Native.Nat.{ℕ}

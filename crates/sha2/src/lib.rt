@@ -1,3 +1,4 @@
+// SPDX-License-Identifier: MIT
 // The Secure Hash Standard, FIPS 180-4: what SHA-256 and SHA-512 share.
 
 // The most bytes that are hashed as one message.

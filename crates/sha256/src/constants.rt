@@ -1,3 +1,4 @@
+// SPDX-License-Identifier: MIT
 // The constants of the rounds: FIPS 180-4, section 4.2.2.
 pub const K: [u32; 64] = [
     0x428a_2f98,

@@ -1,3 +1,4 @@
+// SPDX-License-Identifier: MIT
 // The constants of the rounds: FIPS 180-4, section 4.2.3.
 pub const K: [u64; 80] = [
     0x428a_2f98_d728_ae22,

@@ -1,3 +1,4 @@
+// SPDX-License-Identifier: MIT
 // SHA-512, FIPS 180-4 section 6.4, of a message that is given in pieces.
 mod constants;
 

@@ -1,3 +1,4 @@
+-- SPDX-License-Identifier: MIT
 -- What the proofs of the store and its calls use of the cipher suites. sframe's proofs show it of the five suites.
 -- Assumes nothing.
 use mathlib.Core.Path.{_≡_}

@@ -1,3 +1,4 @@
+-- SPDX-License-Identifier: MIT
 pub mod CipherLaws
 mod Finds
 pub mod Keys

@@ -1,3 +1,4 @@
+-- SPDX-License-Identifier: MIT
 -- Laws of records in order: Key IDs that rise, empty records last. What is inserted and what is taken out keeps the order, and
 -- every other Key ID finds what it found. Assumes nothing.
 use mathlib.Core.Path.{_≡_, refl, sym, _∙_, ap, ap₂}

@@ -1,3 +1,4 @@
+-- SPDX-License-Identifier: MIT
 -- What the store and its calls use of the cipher suites of RFC 9605, as one record of operations.
 -- Assumes nothing.
 use mathlib.Core.List.{List}

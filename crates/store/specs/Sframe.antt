@@ -1,3 +1,4 @@
+-- SPDX-License-Identifier: MIT
 -- The five suites of RFC 9605 as the cipher that the store and its calls use: a suite by its number. A number that is
 -- no suite's gives nothing; no record that obeys its row has one.
 -- Assumes nothing.

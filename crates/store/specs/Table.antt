@@ -1,3 +1,4 @@
+-- SPDX-License-Identifier: MIT
 -- The store's records as a table by Key ID.
 -- Assumes nothing.
 use mathlib.Core.Path.{_≡_}

@@ -1,3 +1,4 @@
+-- SPDX-License-Identifier: MIT
 -- AEAD encryption and decryption of each suite: RFC 9605, sections 4.4.3, 4.4.4 and 4.5. Assumes nothing.
 use mathlib.Core.Bool.{Bool, true, false}
 use mathlib.Core.List.{List, _++_}

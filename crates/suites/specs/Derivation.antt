@@ -1,3 +1,4 @@
+-- SPDX-License-Identifier: MIT
 -- Key derivation and the nonce: RFC 9605, sections 4.4.2 and 4.4.3. Assumes nothing.
 use mathlib.Core.List.{List, [], _++_}
 use Prim.Native.Nat.{ℕ}

@@ -1,3 +1,4 @@
+-- SPDX-License-Identifier: MIT
 -- The cipher suites of RFC 9605, section 4.5, as rows of its Table 1, by their registered numbers (8.1). Assumes nothing.
 use mathlib.Core.List.{List, [], _∷_}
 use Prim.Native.Nat.{ℕ}

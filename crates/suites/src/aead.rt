@@ -1,3 +1,4 @@
+// SPDX-License-Identifier: MIT
 // Encryption and decryption, one way for all five suites: RFC 9605, sections 4.4.3, 4.4.4 and 4.5.
 ghost use mathlib.Core.Path.{_≡_};
 ghost use mathlib.Core.List.{_++_};

@@ -1,3 +1,4 @@
+// SPDX-License-Identifier: MIT
 // Each suite as a type with its sizes in bytes (RFC 9605, Table 1), and all five as one enum.
 ghost use mathlib.Core.Path.{_≡_};
 ghost use Rattle.suites.specs.Suites.{suiteOf, numberOf, modeOf, hashOf, paramsOf, cipherKeySize, Nh, Nk, Nn, Nt};

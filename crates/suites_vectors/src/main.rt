@@ -1,3 +1,4 @@
+// SPDX-License-Identifier: MIT
 // Runs the published cases of the suites from standard input, and prints for each group how many came out right and
 // how many wrong.
 ghost use mathlib.Core.Path.{_≡_};

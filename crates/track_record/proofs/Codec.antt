@@ -1,3 +1,4 @@
+-- SPDX-License-Identifier: MIT
 -- A record written is read back, and what obeys the layout is a record in range. Assumes nothing.
 use mathlib.Core.Path.{_≡_, refl, sym, _∙_, ap, ap₂}
 use mathlib.Core.Bool.{Bool, true, false, false≢true}

@@ -1,3 +1,4 @@
+-- SPDX-License-Identifier: MIT
 -- What a record gives, and that it stays in range as it changes. Assumes nothing.
 use mathlib.Core.Path.{_≡_, refl, sym, _∙_, ap}
 use mathlib.Core.Bool.{Bool, true, false, false≢true}

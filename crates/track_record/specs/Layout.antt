@@ -1,3 +1,4 @@
+-- SPDX-License-Identifier: MIT
 -- The layout of docs/TRACKS.md: a record's form in bytes, and when bytes obey it. Only this file knows where a field stands.
 -- Assumes nothing.
 use mathlib.Core.Bool.{Bool, true}

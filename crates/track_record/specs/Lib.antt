@@ -1,3 +1,4 @@
+-- SPDX-License-Identifier: MIT
 pub mod Layout
 pub mod Record
 pub mod inner

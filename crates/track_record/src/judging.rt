@@ -1,3 +1,4 @@
+// SPDX-License-Identifier: MIT
 // Judging one record's bytes: they obey the layout where what they read as, written anew, is the same bytes, and fits its kind.
 ghost use mathlib.Core.Path.{_≡_};
 ghost use mathlib.Core.Bool.{true};

@@ -1,3 +1,4 @@
+// SPDX-License-Identifier: MIT
 // One record of the track store, 344 bytes, and what they are as a record. Nobody outside this crate knows where a field stands;
 // docs/TRACKS.md says it.
 pub mod judging;

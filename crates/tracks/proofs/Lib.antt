@@ -1,3 +1,4 @@
+-- SPDX-License-Identifier: MIT
 pub mod Stores
 pub mod Tables
 mod Walk

@@ -1,3 +1,4 @@
+-- SPDX-License-Identifier: MIT
 -- The track store's records as a table by name and Key ID.
 -- Assumes nothing.
 use mathlib.Core.Path.{_≡_}

@@ -1,3 +1,4 @@
+-- SPDX-License-Identifier: MIT
 -- The track store: its records, and when it is sound.
 -- Assumes nothing.
 use mathlib.Core.Bool.{Bool, true}

@@ -1,3 +1,4 @@
+-- SPDX-License-Identifier: MIT
 -- The replay window of a receiving key: which of the counters up to the highest that was opened were opened too.
 -- Assumes nothing.
 use mathlib.Core.Bool.{Bool, true, false}

@@ -1,3 +1,4 @@
+// SPDX-License-Identifier: MIT
 // The replay window of a receiving key.
 ghost use mathlib.Core.Path.{_≡_};
 ghost use mathlib.Core.Bool.{true, false};

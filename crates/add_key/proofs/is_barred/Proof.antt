@@ -1,3 +1,4 @@
+-- SPDX-License-Identifier: MIT
 use borrow.Author.Needs.{needs}
 use Rattle.add_key.specs.Add.{barred}
 use Rattle.add_key.proofs.is_barred.Statement.{statement}

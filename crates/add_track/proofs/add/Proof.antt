@@ -1,3 +1,4 @@
+-- SPDX-License-Identifier: MIT
 use Rattle.add_track.proofs.Addition.{free-empty, add-unsound, add-suite, add-barred, add-short, add-long, add-name, add-held, add-full, add-done}
 use Rattle.tracks.proofs.Places.{tested-sound, tested-whole, free-within}
 use Rattle.track_record.specs.Record.{trackId}

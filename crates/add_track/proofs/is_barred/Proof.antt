@@ -1,3 +1,4 @@
+-- SPDX-License-Identifier: MIT
 use Rattle.add_track.specs.Add.{barred}
 use mathlib.Core.Path.{sym, ap}
 use borrow.Author.Needs.{needs}

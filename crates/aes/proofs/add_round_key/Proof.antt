@@ -1,3 +1,4 @@
+-- SPDX-License-Identifier: MIT
 -- `aes::add_round_key` meets its contract.
 -- Assumes nothing.
 use borrow.Author.Needs.{needs}

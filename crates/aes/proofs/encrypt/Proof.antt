@@ -1,3 +1,4 @@
+-- SPDX-License-Identifier: MIT
 -- `aes::encrypt` meets its contract: the loop's invariant: t is the state after r rounds.
 -- Assumes nothing.
 use mathlib.Core.Path.{_≡_, refl}

@@ -1,3 +1,4 @@
+-- SPDX-License-Identifier: MIT
 -- `aes::encrypt_block` meets its contract: the block is read, encrypted and written.
 -- Assumes nothing.
 use Rattle.aes.specs.Aes.{encrypt}

@@ -1,3 +1,4 @@
+-- SPDX-License-Identifier: MIT
 -- `aes::expand` meets its contract.
 -- Assumes nothing.
 use mathlib.Core.Path.{_≡_, refl, ap, _∙_}

@@ -1,3 +1,4 @@
+-- SPDX-License-Identifier: MIT
 -- `aes::load` meets its contract: each column is read from its own four bytes.
 -- Assumes nothing.
 use mathlib.Core.List.{List}

@@ -1,3 +1,4 @@
+-- SPDX-License-Identifier: MIT
 -- `aes::put` meets its contract: what is written to the front of the part is written at its index.
 -- Assumes nothing.
 use Prim.Native.Nat.{_-_}

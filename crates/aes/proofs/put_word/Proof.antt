@@ -1,3 +1,4 @@
+-- SPDX-License-Identifier: MIT
 -- `aes::put_word` meets its contract.
 -- Assumes nothing.
 use borrow.Author.Needs.{needs}

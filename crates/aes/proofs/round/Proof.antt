@@ -1,3 +1,4 @@
+-- SPDX-License-Identifier: MIT
 -- `aes::round` meets its contract.
 -- Assumes nothing.
 use borrow.Author.Needs.{needs}

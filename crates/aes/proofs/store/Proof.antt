@@ -1,3 +1,4 @@
+-- SPDX-License-Identifier: MIT
 -- `aes::store` meets its contract: the four words, one after the other, are the block.
 -- Assumes nothing.
 use Rattle.aes.proofs.Blocks.{stored}

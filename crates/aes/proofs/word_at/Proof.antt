@@ -1,3 +1,4 @@
+-- SPDX-License-Identifier: MIT
 -- `aes::word_at` meets its contract.
 -- Assumes nothing.
 use borrow.Author.Needs.{needs}

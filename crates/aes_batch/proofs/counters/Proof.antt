@@ -1,3 +1,4 @@
+-- SPDX-License-Identifier: MIT
 use mathlib.Core.Path.{_∙_, ap}
 use Rattle.octets.specs.Octets.{number}
 use Rattle.octets.proofs.Laws.{part-rest}

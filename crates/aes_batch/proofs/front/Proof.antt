@@ -1,3 +1,4 @@
+-- SPDX-License-Identifier: MIT
 use Rattle.aes_batch.proofs.Streams.{fronted}
 use borrow.Author.Needs.{needs}
 use Rattle.aes_batch.proofs.front.Statement.{statement}

@@ -1,3 +1,4 @@
+-- SPDX-License-Identifier: MIT
 use Rattle.aes_batch.proofs.Counting.{numbered}
 use borrow.Author.Needs.{needs}
 use Rattle.aes_batch.proofs.number.Statement.{statement}

@@ -1,3 +1,4 @@
+-- SPDX-License-Identifier: MIT
 use mathlib.Core.Path.{refl}
 use Rattle.aes_batch.proofs.Unslicing.{unsliced}
 use borrow.Author.Needs.{needs}

@@ -1,3 +1,4 @@
+-- SPDX-License-Identifier: MIT
 use Rattle.aes_batch.proofs.Counting.{cleared}
 use borrow.Author.Needs.{needs}
 use Rattle.aes_batch.proofs.without_first.Statement.{statement}

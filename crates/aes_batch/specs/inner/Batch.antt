@@ -1,3 +1,4 @@
+-- SPDX-License-Identifier: MIT
 -- Inner: sixteen blocks at once, as contracts of the code cite them. Other crates cite `Blocks` with `countersOf` or `frontOf`.
 -- Assumes nothing.
 use mathlib.Core.Path.{_≡_}

@@ -1,3 +1,4 @@
+-- SPDX-License-Identifier: MIT
 use Rattle.aes_keys.specs.inner.Keys.{packed}
 use borrow.Author.Needs.{needs}
 use Rattle.aes_keys.proofs.pack.Statement.{statement}

@@ -1,3 +1,4 @@
+-- SPDX-License-Identifier: MIT
 -- `aes_round_table::table` meets its contract: the rule of the table is tested at each of its entries.
 -- Assumes nothing.
 use mathlib.Core.Path.{refl}

@@ -1,3 +1,4 @@
+-- SPDX-License-Identifier: MIT
 -- Inner: what the contract of the table of the rounds cites.
 -- Assumes nothing.
 use mathlib.Core.Path.{_≡_}

@@ -1,3 +1,4 @@
+-- SPDX-License-Identifier: MIT
 use Rattle.aes_rows.proofs.Mixing.{row-added}
 use borrow.Author.Needs.{needs}
 use Rattle.aes_rows.proofs.add_into.Statement.{statement}

@@ -1,3 +1,4 @@
+-- SPDX-License-Identifier: MIT
 use Rattle.aes_rows.proofs.Mixing.{all-shifted}
 use borrow.Author.Needs.{needs}
 use Rattle.aes_rows.proofs.last.Statement.{statement}

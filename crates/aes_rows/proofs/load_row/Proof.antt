@@ -1,3 +1,4 @@
+-- SPDX-License-Identifier: MIT
 use Rattle.aes_rows.specs.Rows.{rowAt}
 use borrow.Author.Needs.{needs}
 use Rattle.aes_rows.proofs.load_row.Statement.{statement}

@@ -1,3 +1,4 @@
+-- SPDX-License-Identifier: MIT
 use native.Mathlib.Omega.{arith}
 use Rattle.aes_rows.proofs.Mixing.{all-mixed}
 use borrow.Author.Needs.{needs}

@@ -1,3 +1,4 @@
+-- SPDX-License-Identifier: MIT
 use borrow.Author.Needs.{needs}
 use Rattle.aes_rows.proofs.shifted.Statement.{statement}
 use Rattle.aes_rows.proofs.shifted.Tie as tie

@@ -1,3 +1,4 @@
+-- SPDX-License-Identifier: MIT
 use lib.ListN.{length-set}
 use Rattle.aes_rows.proofs.Sets.{stored-row}
 use borrow.Author.Needs.{needs}

@@ -1,3 +1,4 @@
+-- SPDX-License-Identifier: MIT
 -- `aes_tables::round_constants` meets its contract: the rule of the round constants is tested at each of them.
 -- Assumes nothing.
 use mathlib.Core.Path.{refl}

@@ -1,3 +1,4 @@
+-- SPDX-License-Identifier: MIT
 -- `aes_tables::s_box` meets its contract: the rule of the S-box is tested at each of its entries.
 -- Assumes nothing.
 use mathlib.Core.Path.{refl}

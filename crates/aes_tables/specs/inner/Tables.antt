@@ -1,3 +1,4 @@
+-- SPDX-License-Identifier: MIT
 -- Inner: what the contracts of the two tables cite. A list is the table when each entry obeys its rule.
 -- Assumes nothing.
 use mathlib.Core.Path.{_≡_}

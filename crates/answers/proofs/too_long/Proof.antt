@@ -1,3 +1,4 @@
+-- SPDX-License-Identifier: MIT
 use Rattle.answers.proofs.Limits.{long-plaintext, long-metadata}
 use Rattle.answers.proofs.too_long.Statement.{statement}
 use Rattle.answers.proofs.too_long.Tie as tie

@@ -1,3 +1,4 @@
+-- SPDX-License-Identifier: MIT
 use native.Mathlib.Omega.{arith}
 use borrow.Author.Needs.{needs}
 use Rattle.answers.proofs.Basics.{told-false, told-true}

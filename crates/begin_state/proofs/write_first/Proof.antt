@@ -1,3 +1,4 @@
+-- SPDX-License-Identifier: MIT
 use borrow.Author.Needs.{needs}
 use Rattle.key_record.specs.Layout.{decode}
 use Rattle.begin_state.proofs.States.{keyed-held, first-written}

@@ -1,3 +1,4 @@
+-- SPDX-License-Identifier: MIT
 -- `bit_transpose::swap` meets its contract.
 -- Assumes nothing.
 use borrow.Author.Needs.{needs}

@@ -1,3 +1,4 @@
+-- SPDX-License-Identifier: MIT
 -- `bitslice::double` meets its contract.
 -- Assumes nothing.
 use Rattle.bitslice.specs.Lanes.{laneByte, Doubled}

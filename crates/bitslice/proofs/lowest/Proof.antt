@@ -1,3 +1,4 @@
+-- SPDX-License-Identifier: MIT
 -- `bitslice::lowest` meets its contract.
 -- Assumes nothing.
 use mathlib.Core.Path.{refl}

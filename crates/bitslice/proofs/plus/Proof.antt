@@ -1,3 +1,4 @@
+-- SPDX-License-Identifier: MIT
 -- `bitslice::plus` meets its contract.
 -- Assumes nothing.
 use Rattle.bitslice.specs.Lanes.{laneByte, Sum}

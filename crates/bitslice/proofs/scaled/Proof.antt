@@ -1,3 +1,4 @@
+-- SPDX-License-Identifier: MIT
 -- `bitslice::scaled` meets its contract.
 -- Assumes nothing.
 use borrow.Author.Needs.{needs}

@@ -1,3 +1,4 @@
+-- SPDX-License-Identifier: MIT
 -- `bitslice::turn` meets its contract.
 -- Assumes nothing.
 use mathlib.Core.Path.{_∙_, ap}

@@ -1,3 +1,4 @@
+-- SPDX-License-Identifier: MIT
 -- Inner: the values of the code as inputs and outputs of the circuit's parts.
 -- Assumes nothing.
 use Prim.Native.Nat.{ℕ, _-_, _^_, _<_}

@@ -1,3 +1,4 @@
+-- SPDX-License-Identifier: MIT
 use mathlib.Core.Path.{refl}
 use borrow.Author.Needs.{needs}
 use Rattle.change_epoch.proofs.Bytes.{copied-down}

@@ -1,3 +1,4 @@
+-- SPDX-License-Identifier: MIT
 -- `clmul::column` meets its contract: the product of two words of 32 bits fits 64.
 -- Assumes nothing.
 use native.Mathlib.Omega.{arith}

@@ -1,3 +1,4 @@
+-- SPDX-License-Identifier: MIT
 -- `clmul::multiply` meets its contract: the sixteen products of classes are the product.
 -- Assumes nothing.
 use native.Mathlib.Omega.{arith}

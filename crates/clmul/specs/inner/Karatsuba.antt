@@ -1,3 +1,4 @@
+-- SPDX-License-Identifier: MIT
 -- Inner: a product without carries from three of half the length.
 -- Assumes nothing.
 use Prim.Native.Nat.{ℕ, _+_, _*_, _^_}

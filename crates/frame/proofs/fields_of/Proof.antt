@@ -1,3 +1,4 @@
+-- SPDX-License-Identifier: MIT
 use borrow.Author.Needs.{needs}
 use Rattle.frame.proofs.Steps.{header-told, refusal-told}
 use Rattle.frame.proofs.fields_of.Statement.{statement}

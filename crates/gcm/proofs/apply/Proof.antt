@@ -1,3 +1,4 @@
+-- SPDX-License-Identifier: MIT
 use Rattle.gcm.proofs.Streams.{rest-length, counts-behind, front-applied}
 use borrow.Author.Needs.{needs}
 use Rattle.gcm.proofs.apply.Statement.{statement}

@@ -1,3 +1,4 @@
+-- SPDX-License-Identifier: MIT
 -- `gcm::digest` meets its contract: the two parts, the ciphertext and the lengths are hashed as the definition says.
 -- Assumes nothing.
 use Rattle.gcm.proofs.Tags.{hashed}

@@ -1,3 +1,4 @@
+-- SPDX-License-Identifier: MIT
 -- `gcm::encrypt` meets its contract: the ciphertext is at the front, and the tag is copied behind it.
 -- Assumes nothing.
 use mathlib.Core.Path.{_≡_, refl, ap, sym, _∙_}

@@ -1,3 +1,4 @@
+-- SPDX-License-Identifier: MIT
 use Rattle.gcm.proofs.Tags.{hash-key-made}
 use borrow.Author.Needs.{needs}
 use Rattle.gcm.proofs.hash_key.Statement.{statement}

@@ -1,3 +1,4 @@
+-- SPDX-License-Identifier: MIT
 -- Inner: the front of a key and a nonce, as contracts of the code cite it.
 -- Assumes nothing.
 use mathlib.Core.List.{List}

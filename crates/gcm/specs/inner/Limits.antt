@@ -1,3 +1,4 @@
+-- SPDX-License-Identifier: MIT
 -- Inner: the limits that the contracts of the code cite.
 -- Assumes nothing.
 use Prim.Native.Nat.{ℕ, _^_}

@@ -1,3 +1,4 @@
+-- SPDX-License-Identifier: MIT
 -- `ghash::absorb` meets its contract: the loop's invariant: z is the hash after i blocks.
 -- Assumes nothing.
 use mathlib.Core.Path.{_≡_, refl}

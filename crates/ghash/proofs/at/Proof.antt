@@ -1,3 +1,4 @@
+-- SPDX-License-Identifier: MIT
 -- `ghash::at` meets its contract: each case is that of two lists joined.
 -- Assumes nothing.
 use mathlib.Core.Path.{sym}

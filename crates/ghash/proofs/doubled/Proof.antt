@@ -1,3 +1,4 @@
+-- SPDX-License-Identifier: MIT
 -- `ghash::doubled` meets its contract: the bit on top, which the half has from R, is cleared and comes in below.
 -- Assumes nothing.
 use native.Mathlib.Omega.{arith}

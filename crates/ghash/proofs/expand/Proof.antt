@@ -1,3 +1,4 @@
+-- SPDX-License-Identifier: MIT
 -- `ghash::expand` meets its contract: the context has the factors of the block whose half is the key.
 -- Assumes nothing.
 use native.Mathlib.Omega.{arith}

@@ -1,3 +1,4 @@
+-- SPDX-License-Identifier: MIT
 -- `ghash::gather` meets its contract: the loop's invariant: the first k bytes are those from index i on.
 -- Assumes nothing.
 use mathlib.Core.Path.{_≡_, refl}

@@ -1,3 +1,4 @@
+-- SPDX-License-Identifier: MIT
 -- `ghash::halved` meets its contract: the bits that fall out are added where R has its four bits.
 -- Assumes nothing.
 use native.Mathlib.Omega.{arith}

@@ -1,3 +1,4 @@
+-- SPDX-License-Identifier: MIT
 -- `ghash::join` meets its contract: the product in the middle lies across the halves.
 -- Assumes nothing.
 use native.Mathlib.Omega.{arith}

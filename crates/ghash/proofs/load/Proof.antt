@@ -1,3 +1,4 @@
+-- SPDX-License-Identifier: MIT
 -- `ghash::load` meets its contract: the number of 16 bytes is that of its two halves.
 -- Assumes nothing.
 use mathlib.Core.Path.{sym}

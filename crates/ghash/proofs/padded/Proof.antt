@@ -1,3 +1,4 @@
+-- SPDX-License-Identifier: MIT
 -- `ghash::padded` meets its contract: a block that lies in the first part is read there, any other byte by byte.
 -- Assumes nothing.
 use mathlib.Core.Path.{_∙_}

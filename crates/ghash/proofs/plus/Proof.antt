@@ -1,3 +1,4 @@
+-- SPDX-License-Identifier: MIT
 -- `ghash::plus` meets its contract: the XOR of the halves is the XOR of the blocks.
 -- Assumes nothing.
 use native.Mathlib.Omega.{arith}

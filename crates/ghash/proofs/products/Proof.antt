@@ -1,3 +1,4 @@
+-- SPDX-License-Identifier: MIT
 -- `ghash::products` meets its contract: the loop's invariant: the first i products are there. The last one follows.
 -- Assumes nothing.
 use mathlib.Core.Path.{refl}

@@ -1,3 +1,4 @@
+-- SPDX-License-Identifier: MIT
 -- `ghash::reduced` meets its contract: the high half stays, the low one is 128 times halved.
 -- Assumes nothing.
 use mathlib.Core.Path.{_∙_, ap}

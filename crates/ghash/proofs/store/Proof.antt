@@ -1,3 +1,4 @@
+-- SPDX-License-Identifier: MIT
 -- `ghash::store` meets its contract: the bytes of the two halves are those of the number.
 -- Assumes nothing.
 use native.Mathlib.Omega.{arith}

@@ -1,3 +1,4 @@
+-- SPDX-License-Identifier: MIT
 -- `ghash::times` meets its contract: nine products of 32 bits are three of 64, and those the product of the blocks.
 -- Assumes nothing.
 use mathlib.Core.Path.{ap}

@@ -1,3 +1,4 @@
+-- SPDX-License-Identifier: MIT
 -- Inner: a block and the context of a hash key, as contracts of the code cite them. Other crates cite `HashKey`,
 -- `hashKeyOf` and `valueOf`, and never a field.
 -- Assumes nothing.

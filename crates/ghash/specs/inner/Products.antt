@@ -1,3 +1,4 @@
+-- SPDX-License-Identifier: MIT
 -- Inner: what the steps of a product of blocks yield.
 -- Assumes nothing.
 use mathlib.Core.Path.{_≡_}

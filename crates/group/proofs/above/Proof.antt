@@ -1,3 +1,4 @@
+-- SPDX-License-Identifier: MIT
 use borrow.Author.Needs.{needs}
 use Rattle.group.proofs.Steps.{above-none}
 use Rattle.group.proofs.above.Statement.{statement}

@@ -1,3 +1,4 @@
+-- SPDX-License-Identifier: MIT
 use borrow.Author.Needs.{needs}
 use Rattle.group.proofs.Steps.{bits-told}
 use Rattle.group.proofs.in_bits.Statement.{statement}

@@ -1,3 +1,4 @@
+-- SPDX-License-Identifier: MIT
 use borrow.Author.Needs.{needs}
 use Rattle.group.proofs.Steps.{raised-none, raised-all}
 use Rattle.group.proofs.raised.Statement.{statement}

@@ -1,3 +1,4 @@
+-- SPDX-License-Identifier: MIT
 use borrow.Author.Needs.{needs}
 use Rattle.group.proofs.Steps.{widths-long, widths-told}
 use Rattle.group.proofs.widths_fit.Statement.{statement}

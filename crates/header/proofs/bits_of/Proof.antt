@@ -1,3 +1,4 @@
+-- SPDX-License-Identifier: MIT
 use borrow.Author.Needs.{needs}
 use Rattle.header.proofs.Laws.{nibble-short, nibble-long}
 use Rattle.header.proofs.bits_of.Statement.{statement}

@@ -1,3 +1,4 @@
+-- SPDX-License-Identifier: MIT
 use native.Mathlib.Omega.{arith}
 use borrow.Author.Needs.{needs}
 use Rattle.header.proofs.Steps.{short-form, cut, whole-field}

@@ -1,3 +1,4 @@
+-- SPDX-License-Identifier: MIT
 use borrow.Author.Needs.{needs}
 use Rattle.header.proofs.Steps.{wrote-at}
 use Rattle.header.proofs.write_header_at.Statement.{statement}

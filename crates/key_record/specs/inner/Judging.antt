@@ -1,3 +1,4 @@
+-- SPDX-License-Identifier: MIT
 -- Cited by inner contracts alone: what the bytes of one record are tested for, step by step. That this amounts to obeying their row
 -- is proved.
 -- Assumes nothing.

@@ -1,3 +1,4 @@
+-- SPDX-License-Identifier: MIT
 -- Cited by inner contracts alone: what the functions over one record's bytes answer and write, in decoded values.
 -- Assumes nothing.
 use mathlib.Core.Path.{_≡_}

@@ -1,3 +1,4 @@
+-- SPDX-License-Identifier: MIT
 use mathlib.Core.Path.{sym}
 use lib.Seq.{length-take-le}
 use borrow.Author.Needs.{needs}

@@ -1,3 +1,4 @@
+-- SPDX-License-Identifier: MIT
 use borrow.Author.Needs.{needs}
 use Rattle.octets.proofs.Loops.{number-eight}
 use Rattle.octets.proofs.read_be64.Statement.{statement}

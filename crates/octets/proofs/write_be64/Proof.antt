@@ -1,3 +1,4 @@
+-- SPDX-License-Identifier: MIT
 use borrow.Author.Needs.{needs}
 use Rattle.octets.proofs.Loops.{bytes-eight}
 use Rattle.octets.proofs.write_be64.Statement.{statement}

@@ -1,3 +1,4 @@
+-- SPDX-License-Identifier: MIT
 use borrow.Author.Needs.{needs}
 use Rattle.octets.proofs.Laws.{lent-bytes}
 use Rattle.octets.proofs.write_be_at.Statement.{statement}

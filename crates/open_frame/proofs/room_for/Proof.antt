@@ -1,3 +1,4 @@
+-- SPDX-License-Identifier: MIT
 use Rattle.open_frame.proofs.OpenSteps.{room-short, room-enough}
 use Rattle.open_frame.proofs.room_for.Statement.{statement}
 use Rattle.open_frame.proofs.room_for.Tie as tie

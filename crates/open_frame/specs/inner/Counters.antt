@@ -1,3 +1,4 @@
+-- SPDX-License-Identifier: MIT
 -- Cited by inner contracts alone: what the replay window has against a counter. Assumes nothing.
 use mathlib.Core.List.{[], _∷_}
 use Prim.Native.Nat.{ℕ}

@@ -1,3 +1,4 @@
+-- SPDX-License-Identifier: MIT
 use Rattle.open_object.proofs.OpenSteps.{judged-role, judged-object, judged-short, judged-long, judged-room, judged-done}
 use Rattle.track_record.proofs.Records.{told-nothing, told}
 use Rattle.track_record.specs.Layout.{decode}

@@ -1,3 +1,4 @@
+-- SPDX-License-Identifier: MIT
 use Rattle.open_object.proofs.OpenSteps.{open-unsound, open-missing, name-fits, held-there, open-found}
 use Rattle.tracks.proofs.Places.{tested-sound, tested-whole, found-within}
 use Rattle.track_record.specs.Record.{trackId}

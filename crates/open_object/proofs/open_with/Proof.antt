@@ -1,3 +1,4 @@
+-- SPDX-License-Identifier: MIT
 use Rattle.open_object.proofs.OpenSteps.{clear, sizes-told, open-refused, tag-refused, object-opened}
 use Rattle.track_record.proofs.Records.{told-nothing, told}
 use Rattle.track_record.specs.Record.{trackId}

@@ -1,3 +1,4 @@
+-- SPDX-License-Identifier: MIT
 use Rattle.pair_log.proofs.Writing.{digit-low, digit-high}
 use borrow.Author.Needs.{needs}
 use Rattle.pair_log.proofs.digit.Statement.{statement}

@@ -1,3 +1,4 @@
+-- SPDX-License-Identifier: MIT
 use Rattle.pair_log.proofs.Gathering.{other-ctr, same-ctr}
 use borrow.Author.Needs.{needs}
 use Rattle.pair_log.proofs.equal.Statement.{statement}

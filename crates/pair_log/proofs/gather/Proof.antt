@@ -1,3 +1,4 @@
+-- SPDX-License-Identifier: MIT
 use mathlib.Core.Path.{_≡_, refl, _∙_}
 use lib.ListN.{length}
 use Rattle.pair_log.proofs.Gathering.{Gathered, gather-starts, gather-room, gather-fits, gather-inserts, gather-passes, gather-ends}

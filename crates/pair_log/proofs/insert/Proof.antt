@@ -1,3 +1,4 @@
+-- SPDX-License-Identifier: MIT
 use Rattle.pair_log.proofs.Gathering.{insert-old, insert-new}
 use native.Mathlib.Omega.{arith}
 use borrow.Author.Needs.{needs}

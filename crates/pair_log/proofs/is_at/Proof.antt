@@ -1,3 +1,4 @@
+-- SPDX-License-Identifier: MIT
 use Rattle.pair_log.proofs.Gathering.{at-none, at-some}
 use mathlib.Core.Path.{_∙_}
 use borrow.Author.Needs.{needs}

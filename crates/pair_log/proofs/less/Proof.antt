@@ -1,3 +1,4 @@
+-- SPDX-License-Identifier: MIT
 use Rattle.pair_log.proofs.Gathering.{less-kid, more-kid, same-kid}
 use borrow.Author.Needs.{needs}
 use Rattle.pair_log.proofs.less.Statement.{statement}

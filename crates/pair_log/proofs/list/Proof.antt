@@ -1,3 +1,4 @@
+-- SPDX-License-Identifier: MIT
 use Rattle.pair_log.proofs.Writing.{answers-same, listing-of}
 use borrow.Author.Needs.{needs}
 use Rattle.pair_log.proofs.list.Statement.{statement}

@@ -1,3 +1,4 @@
+-- SPDX-License-Identifier: MIT
 use Rattle.pair_log.proofs.Writing.{sizes-join}
 use borrow.Author.Needs.{needs}
 use Rattle.pair_log.proofs.listing_size.Statement.{statement}

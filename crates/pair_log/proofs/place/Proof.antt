@@ -1,3 +1,4 @@
+-- SPDX-License-Identifier: MIT
 use Prim.Native.Nat.{_-_}
 use Rattle.pair_log.specs.inner.Listed.{pair}
 use Rattle.pair_log.proofs.Gathering.{Placing, place-starts, place-finds, place-goes-on, place-ends}

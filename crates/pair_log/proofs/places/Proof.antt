@@ -1,3 +1,4 @@
+-- SPDX-License-Identifier: MIT
 use Rattle.pair_log.proofs.Writing.{place-one, place-two, place-three, place-four}
 use borrow.Author.Needs.{needs}
 use Rattle.pair_log.proofs.places.Statement.{statement}

@@ -1,3 +1,4 @@
+-- SPDX-License-Identifier: MIT
 use Prim.Native.Nat.{_-_}
 use lib.ListN.{length}
 use Rattle.pair_log.proofs.Gathering.{Pushing, push-starts, push-goes-on, push-ends}

@@ -1,3 +1,4 @@
+-- SPDX-License-Identifier: MIT
 use Rattle.pair_log.proofs.Writing.{answers-same, report-long, report-bad, report-whole}
 use borrow.Author.Needs.{needs}
 use Rattle.pair_log.proofs.report.Statement.{statement}

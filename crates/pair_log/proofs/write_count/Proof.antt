@@ -1,3 +1,4 @@
+-- SPDX-License-Identifier: MIT
 use Rattle.pair_log.proofs.Writing.{counted-length, count-written}
 use borrow.Author.Needs.{needs}
 use Rattle.pair_log.proofs.write_count.Statement.{statement}

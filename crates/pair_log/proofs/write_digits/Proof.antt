@@ -1,3 +1,4 @@
+-- SPDX-License-Identifier: MIT
 use Rattle.pair_log.proofs.Writing.{digit-fits, Spelling, spell-starts, spell-goes-on, spell-ends}
 use borrow.Author.Needs.{needs}
 use Rattle.pair_log.proofs.write_digits.Statement.{statement}

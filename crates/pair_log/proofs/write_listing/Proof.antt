@@ -1,3 +1,4 @@
+-- SPDX-License-Identifier: MIT
 use mathlib.Core.Path.{_∙_}
 use Rattle.pair_log.specs.inner.Listed.{listed}
 use Rattle.pair_log.proofs.Gathering.{listed-length}

@@ -1,3 +1,4 @@
+-- SPDX-License-Identifier: MIT
 use Prim.Native.Nat.{_-_}
 use Rattle.pair_log.proofs.Writing.{Lining, lines-start, lines-go-on, lines-end}
 use native.Mathlib.Omega.{arith}

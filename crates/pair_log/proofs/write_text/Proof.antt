@@ -1,3 +1,4 @@
+-- SPDX-License-Identifier: MIT
 use mathlib.Core.Path.{refl, _∙_}
 use Rattle.pair_log.proofs.Writing.{written-refused, written-done}
 use borrow.Author.Needs.{needs}

@@ -1,3 +1,4 @@
+-- SPDX-License-Identifier: MIT
 -- Inner: the pairs that two arrays hold, one of KIDs and one of counters. Assumes nothing.
 use mathlib.Core.List.{List, [], _∷_}
 use Prim.Native.Nat.{ℕ, zero, suc, _+_, _*_, _^_}

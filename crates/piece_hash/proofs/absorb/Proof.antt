@@ -1,3 +1,4 @@
+-- SPDX-License-Identifier: MIT
 use Rattle.piece_hash.proofs.Steps.{absorbed-short, absorbed}
 use Prim.Native.Nat.{ℕ, _+_, _-_}
 use mathlib.Core.Path.{_≡_, refl, sym, _∙_, ap}

@@ -1,3 +1,4 @@
+-- SPDX-License-Identifier: MIT
 use Rattle.piece_hash.proofs.Steps.{filled}
 use lib.ListN.{length, take, drop, length-take, length-drop, length-append}
 use mathlib.Core.Path.{_≡_, refl, sym, _∙_, ap}

@@ -1,3 +1,4 @@
+-- SPDX-License-Identifier: MIT
 use Rattle.piece_hash.proofs.Steps.{filled}
 use native.Mathlib.Omega.{arith}
 use borrow.Author.Needs.{needs}

@@ -1,3 +1,4 @@
+-- SPDX-License-Identifier: MIT
 use Rattle.piece_hash.proofs.Steps.{saved}
 use Rattle.sha256.specs.inner.State.{state256}
 use borrow.Author.Needs.{needs}

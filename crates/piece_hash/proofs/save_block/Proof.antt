@@ -1,3 +1,4 @@
+-- SPDX-License-Identifier: MIT
 use Rattle.piece_hash.proofs.Steps.{block-kept}
 use borrow.Author.Needs.{needs}
 use Rattle.piece_hash.proofs.save_block.Statement.{statement}

@@ -1,3 +1,4 @@
+-- SPDX-License-Identifier: MIT
 use Rattle.piece_hash.proofs.Steps.{waiting-in, kept-short, kept-long}
 use Rattle.piece_hash.specs.Held.{roomIn}
 use Prim.Native.Nat.{ℕ, _+_, _-_}

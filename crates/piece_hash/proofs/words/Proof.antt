@@ -1,3 +1,4 @@
+-- SPDX-License-Identifier: MIT
 use Prim.Native.Nat.{_+_, _≤_}
 use Rattle.piece_hash.proofs.Steps.{words-read, word-lent}
 use lib.ListN.{length, take, drop, length-take, length-drop, length-append}

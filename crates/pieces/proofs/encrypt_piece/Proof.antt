@@ -1,3 +1,4 @@
+-- SPDX-License-Identifier: MIT
 use Rattle.pieces.proofs.Steps.{lent-front, cipher-length, read-back}
 use Rattle.pieces.specs.Line.{cipherPiece, after}
 use lib.ListN.{length, take, drop, length-take, length-drop, length-append}

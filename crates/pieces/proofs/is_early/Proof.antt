@@ -1,3 +1,4 @@
+-- SPDX-License-Identifier: MIT
 use Prim.Native.Nat.{ℕ}
 use mathlib.Core.Bool.{not}
 use lib.Dec.{eqb}

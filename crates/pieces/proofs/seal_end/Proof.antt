@@ -1,3 +1,4 @@
+-- SPDX-License-Identifier: MIT
 use Rattle.pieces.proofs.Steps.{known-possible, first-part, tag-fits}
 use Rattle.pieces.proofs.CallSteps.{within, piece-unknown, piece-past, piece-short, piece-taken, end-unknown, end-early, end-short, end-written, check-unknown, check-past, check-done, tag-unknown, tag-early, tag-length, tag-differs, tag-same}
 use Rattle.suites.proofs.Laws.{Nk-most, Nt-most, ctr-sizes, gcm-sizes}

@@ -1,3 +1,4 @@
+-- SPDX-License-Identifier: MIT
 use Rattle.ratchet.proofs.Steps.{judge-short, judge-long, judge-steps, judge-room, judge-done}
 use Rattle.ratchet.proofs.judge.Statement.{statement}
 use Rattle.ratchet.proofs.judge.Tie as tie

@@ -1,3 +1,4 @@
+-- SPDX-License-Identifier: MIT
 use borrow.Author.Needs.{needs}
 use Rattle.ratchet.proofs.Steps.{power-is}
 use Rattle.ratchet.proofs.power.Statement.{statement}

@@ -1,3 +1,4 @@
+-- SPDX-License-Identifier: MIT
 -- Inner: the length of a key after so many steps. Assumes nothing.
 use Prim.Native.Nat.{ℕ, zero, suc}
 use Rattle.suites.specs.Suites.{Nh}

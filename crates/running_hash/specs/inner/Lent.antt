@@ -1,3 +1,4 @@
+-- SPDX-License-Identifier: MIT
 -- Cited by inner contracts only: what feeding and finishing make of a lent state, once for both hashes. Assumes nothing.
 use mathlib.Core.Path.{_≡_}
 use mathlib.Core.List.{List, [], _++_}

@@ -1,3 +1,4 @@
+-- SPDX-License-Identifier: MIT
 use borrow.Author.Needs.{needs}
 use Rattle.seal_frame.proofs.SealSteps.{sealed-at}
 use Rattle.seal_frame.proofs.seal_at.Statement.{statement}

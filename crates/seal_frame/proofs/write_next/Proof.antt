@@ -1,3 +1,4 @@
+-- SPDX-License-Identifier: MIT
 use borrow.Author.Needs.{needs}
 use Rattle.seal_frame.proofs.SealSteps.{header-has-room, header-written}
 use Rattle.seal_frame.proofs.write_next.Statement.{statement}

@@ -1,3 +1,4 @@
+-- SPDX-License-Identifier: MIT
 use Rattle.seal_object.proofs.SealSteps.{sum-fits, judged-role, judged-object, judged-pair, judged-long, judged-room, judged-done}
 use Rattle.track_record.proofs.Records.{told-nothing, told}
 use Rattle.track_record.specs.Layout.{decode}

@@ -1,3 +1,4 @@
+-- SPDX-License-Identifier: MIT
 use Rattle.seal_object.proofs.SealSteps.{seal-unsound, seal-missing, held-there, held-place, name-fits, seal-refused, judged-again, object-fits, seal-done}
 use Rattle.tracks.proofs.Places.{tested-sound, tested-whole, found-within}
 use Rattle.track_record.specs.Record.{trackId}

@@ -1,3 +1,4 @@
+-- SPDX-License-Identifier: MIT
 use Rattle.seal_object.proofs.SealSteps.{clear, end-inside, end-fits, body-room, object-written}
 use Rattle.track_record.proofs.Records.{told-nothing, told}
 use Rattle.track_record.specs.Record.{trackId}

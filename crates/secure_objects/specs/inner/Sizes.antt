@@ -1,3 +1,4 @@
+-- SPDX-License-Identifier: MIT
 -- Cited by inner contracts alone: sizes of the code's arrays. Assumes nothing.
 use mathlib.Core.List.{List}
 use Prim.Native.Nat.{ℕ, _+_, _*_}

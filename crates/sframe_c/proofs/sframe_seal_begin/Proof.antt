@@ -1,3 +1,4 @@
+-- SPDX-License-Identifier: MIT
 use borrow.Author.Needs.{needs}
 use Rattle.sframe_c.proofs.sframe_seal_begin.Statement.{statement}
 use Rattle.sframe_c.proofs.sframe_seal_begin.Tie as tie

@@ -1,3 +1,4 @@
+-- SPDX-License-Identifier: MIT
 -- Inner: a block halfway, as the contracts of the rounds cite it: the message schedule grows beside the rounds.
 -- Assumes nothing.
 use mathlib.Core.Path.{_≡_}

@@ -1,3 +1,4 @@
+-- SPDX-License-Identifier: MIT
 use borrow.Author.Needs.{needs}
 use Rattle.sha256.proofs.next_word.Statement.{statement}
 use Rattle.sha256.proofs.next_word.Tie as tie

@@ -1,3 +1,4 @@
+-- SPDX-License-Identifier: MIT
 use Rattle.sha2.specs.Sizes.{sha256}
 use Rattle.sha2.proofs.Steps.{round-done}
 use Rattle.sha256.specs.inner.State.{words256}

@@ -1,3 +1,4 @@
+-- SPDX-License-Identifier: MIT
 use Rattle.sha2.specs.Sizes.{sha512}
 use Rattle.sha2.proofs.Steps.{round-done}
 use Rattle.sha512.specs.inner.State.{words512}

@@ -1,3 +1,4 @@
+-- SPDX-License-Identifier: MIT
 use borrow.Author.Needs.{needs}
 use Rattle.store.proofs.Places.{place-found, place-nowhere}
 use Rattle.store.proofs.find.Statement.{statement}

@@ -1,3 +1,4 @@
+-- SPDX-License-Identifier: MIT
 use mathlib.Core.Path.{_∙_, ap, sym}
 use mathlib.Core.Bool.{not}
 use native.Mathlib.Omega.{arith}

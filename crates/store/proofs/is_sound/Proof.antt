@@ -1,3 +1,4 @@
+-- SPDX-License-Identifier: MIT
 use borrow.Author.Needs.{needs}
 use Rattle.store.proofs.Walk.{sound-length, sound-whole, sound-rows}
 use Rattle.store.proofs.is_sound.Statement.{statement}

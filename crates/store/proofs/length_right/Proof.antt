@@ -1,3 +1,4 @@
+-- SPDX-License-Identifier: MIT
 use borrow.Author.Needs.{needs}
 use Rattle.store.proofs.Walk.{length-short, length-long, length-whole}
 use Rattle.store.proofs.length_right.Statement.{statement}

@@ -1,3 +1,4 @@
+-- SPDX-License-Identifier: MIT
 use borrow.Author.Needs.{needs}
 use Rattle.answers.proofs.Basics.{told-true}
 use Rattle.store.proofs.Finds.{find-unsound, find-missing, find-done}

@@ -1,3 +1,4 @@
+-- SPDX-License-Identifier: MIT
 use borrow.Author.Needs.{needs}
 use Rattle.store.proofs.Removal.{make-refused, make-done}
 use Rattle.store.proofs.make.Statement.{statement}

@@ -1,3 +1,4 @@
+-- SPDX-License-Identifier: MIT
 use mathlib.Core.Path.{_∙_, ap}
 use borrow.Author.Needs.{needs}
 use Rattle.key_record.specs.Record.{holds}

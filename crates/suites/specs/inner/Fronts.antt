@@ -1,3 +1,4 @@
+-- SPDX-License-Identifier: MIT
 -- Inner: which suites work from a front. Assumes nothing.
 use mathlib.Core.Path.{_≡_}
 use mathlib.Core.List.{List}

@@ -1,3 +1,4 @@
+-- SPDX-License-Identifier: MIT
 -- Inner: sizes of the code's arrays that its contracts cite. Assumes nothing.
 use mathlib.Core.List.{List}
 use Prim.Native.Nat.{ℕ, _+_}

@@ -1,3 +1,4 @@
+-- SPDX-License-Identifier: MIT
 use Rattle.tracks.proofs.Walk.{alone-unheld, alone-nowhere, alone-found}
 use Rattle.track_record.specs.Record.{trackId}
 use Rattle.track_record.specs.Layout.{decode}

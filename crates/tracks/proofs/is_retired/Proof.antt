@@ -1,3 +1,4 @@
+-- SPDX-License-Identifier: MIT
 use Rattle.tracks.proofs.Removal.{retired-none, retired-told}
 use Rattle.track_record.specs.Record.{rests}
 use Rattle.track_record.specs.Layout.{decode}

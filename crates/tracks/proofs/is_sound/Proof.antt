@@ -1,3 +1,4 @@
+-- SPDX-License-Identifier: MIT
 use borrow.Author.Needs.{needs}
 use Rattle.tracks.specs.Tracks.{records}
 use Rattle.tracks.proofs.Walk.{sound-length, sound-whole, sound-rows, sound-tracks}

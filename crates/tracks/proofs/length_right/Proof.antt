@@ -1,3 +1,4 @@
+-- SPDX-License-Identifier: MIT
 use borrow.Author.Needs.{needs}
 use Rattle.tracks.proofs.Walk.{length-short, length-long, length-whole}
 use Rattle.tracks.proofs.length_right.Statement.{statement}

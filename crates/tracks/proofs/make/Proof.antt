@@ -1,3 +1,4 @@
+-- SPDX-License-Identifier: MIT
 use borrow.Author.Needs.{needs}
 use Rattle.tracks.proofs.Removal.{make-refused, make-done}
 use Rattle.tracks.proofs.make.Statement.{statement}

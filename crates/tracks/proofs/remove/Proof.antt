@@ -1,3 +1,4 @@
+-- SPDX-License-Identifier: MIT
 use Rattle.tracks.proofs.Removal.{remove-unsound, remove-missing, held-there, remove-retired, remove-done}
 use Rattle.tracks.proofs.Places.{tested-sound, tested-whole, found-within}
 use Rattle.tracks.specs.Tracks.{sound}

@@ -1,3 +1,4 @@
+-- SPDX-License-Identifier: MIT
 use mathlib.Core.Path.{refl}
 use Rattle.window.proofs.count.Statement.{statement}
 use Rattle.window.proofs.count.Tie as tie

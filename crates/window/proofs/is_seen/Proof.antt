@@ -1,3 +1,4 @@
+-- SPDX-License-Identifier: MIT
 use borrow.Author.Needs.{needs}
 use Rattle.window.proofs.Steps.{seen-newer, seen-far, seen-bit}
 use Rattle.window.proofs.is_seen.Statement.{statement}

@@ -1,3 +1,4 @@
+-- SPDX-License-Identifier: MIT
 use Rattle.window.proofs.Steps.{old-newer, old-told}
 use Rattle.window.proofs.is_too_old.Statement.{statement}
 use Rattle.window.proofs.is_too_old.Tie as tie

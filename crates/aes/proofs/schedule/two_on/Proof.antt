@@ -1,3 +1,4 @@
+-- SPDX-License-Identifier: MIT
 -- `aes::schedule::two_on` meets its contract.
 -- Assumes nothing.
 use borrow.Author.Needs.{needs}

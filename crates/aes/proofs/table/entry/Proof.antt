@@ -1,3 +1,4 @@
+-- SPDX-License-Identifier: MIT
 -- `aes::table::entry` meets its contract: the table says so of each entry.
 -- Assumes nothing.
 use borrow.Author.Needs.{needs}

@@ -1,3 +1,4 @@
+-- SPDX-License-Identifier: MIT
 -- `aes::table::start` meets its contract.
 -- Assumes nothing.
 use borrow.Author.Needs.{needs}

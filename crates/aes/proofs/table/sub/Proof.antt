@@ -1,3 +1,4 @@
+-- SPDX-License-Identifier: MIT
 -- `aes::table::sub` meets its contract: the table's entry has the byte in its second place.
 -- Assumes nothing.
 use Rattle.aes_tables.specs.Field.{sBox}

@@ -1,3 +1,4 @@
+-- SPDX-License-Identifier: MIT
 -- `aes::table::substituted` meets its contract.
 -- Assumes nothing.
 use borrow.Author.Needs.{needs}

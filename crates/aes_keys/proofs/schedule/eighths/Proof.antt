@@ -1,3 +1,4 @@
+-- SPDX-License-Identifier: MIT
 use native.Mathlib.Omega.{arith}
 use lib.Bits.{and-le-r}
 use Rattle.aes_keys.proofs.Words.{eighth-bits}

@@ -1,3 +1,4 @@
+-- SPDX-License-Identifier: MIT
 -- `aes_keys::schedule::extend` meets its contract.
 -- Assumes nothing.
 use borrow.Author.Needs.{needs}

@@ -1,3 +1,4 @@
+-- SPDX-License-Identifier: MIT
 use Rattle.aes_keys.proofs.Words.{bytes-gathered}
 use borrow.Author.Needs.{needs}
 use Rattle.aes_keys.proofs.schedule.gathered.Statement.{statement}

@@ -1,3 +1,4 @@
+-- SPDX-License-Identifier: MIT
 use Rattle.bitslice.specs.Lanes.{laneByte}
 use Rattle.bitslice.proofs.SBox.{by-parts}
 use Rattle.bitslice.proofs.Spreads.{shifts}

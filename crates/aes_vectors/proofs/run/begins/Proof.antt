@@ -1,3 +1,4 @@
+-- SPDX-License-Identifier: MIT
 -- `aes_vectors::run::begins` meets its contract: the part that is compared is as long as what is expected.
 -- Assumes nothing.
 use mathlib.Core.Path.{sym}

@@ -1,3 +1,4 @@
+-- SPDX-License-Identifier: MIT
 -- `aes_vectors::run::hex` meets its contract: the loop's invariant: n is within out, which keeps its length.
 -- Assumes nothing.
 use Rattle.io.proofs.Counting.{counts}

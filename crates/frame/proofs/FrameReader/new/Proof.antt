@@ -1,3 +1,4 @@
+-- SPDX-License-Identifier: MIT
 -- `FrameReader::new` meets its contract: a walk of its MIR, by hand. `fields_of` is called on the slice, and the reader is made of its answer and of the slice.
 -- A `&[u8]` is Copy: what it owns is had three times, for the callee, inside the result, and at exit.
 -- Assumes nothing.

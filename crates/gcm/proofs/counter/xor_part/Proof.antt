@@ -1,3 +1,4 @@
+-- SPDX-License-Identifier: MIT
 use Rattle.gcm.proofs.Streams.{xored}
 use borrow.Author.Needs.{needs}
 use Rattle.gcm.proofs.counter.xor_part.Statement.{statement}

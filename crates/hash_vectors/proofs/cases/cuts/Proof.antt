@@ -1,3 +1,4 @@
+-- SPDX-License-Identifier: MIT
 use native.Mathlib.Omega.{arith}
 use Prim.Native.Nat.{_≤_, _-_}
 use lib.ListN.{length, length-take, length-drop}

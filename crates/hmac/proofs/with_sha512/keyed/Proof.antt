@@ -1,3 +1,4 @@
+-- SPDX-License-Identifier: MIT
 use mathlib.Core.List.{[]}
 use borrow.Author.Needs.{needs}
 use Rattle.hmac.proofs.with_sha512.keyed.Statement.{statement}

@@ -1,3 +1,4 @@
+-- SPDX-License-Identifier: MIT
 use Rattle.key_record.proofs.Spent.{receiving-spent, receiving-zero, other-left, other-unknown, other-last}
 use Rattle.key_record.proofs.judging.counter_fits.Statement.{statement}
 use Rattle.key_record.proofs.judging.counter_fits.Tie as tie

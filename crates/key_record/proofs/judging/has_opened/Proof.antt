@@ -1,3 +1,4 @@
+-- SPDX-License-Identifier: MIT
 use borrow.Author.Needs.{needs}
 use Rattle.key_record.proofs.Judge.{opened-other, opened-last}
 use Rattle.key_record.proofs.judging.has_opened.Statement.{statement}

@@ -1,3 +1,4 @@
+-- SPDX-License-Identifier: MIT
 use Rattle.key_record.proofs.Judge.{mark-low, mark-high}
 use Rattle.key_record.proofs.judging.is_held.Statement.{statement}
 use Rattle.key_record.proofs.judging.is_held.Tie as tie

@@ -1,3 +1,4 @@
+-- SPDX-License-Identifier: MIT
 use borrow.Author.Needs.{needs}
 use Rattle.key_record.proofs.Judge.{window-told}
 use Rattle.key_record.proofs.judging.window_in.Statement.{statement}

@@ -1,3 +1,4 @@
+-- SPDX-License-Identifier: MIT
 use borrow.Author.Needs.{needs}
 use Rattle.key_record.proofs.Fields.{cleared}
 use Rattle.key_record.proofs.row.clear.Statement.{statement}

@@ -1,3 +1,4 @@
+-- SPDX-License-Identifier: MIT
 use borrow.Author.Needs.{needs}
 use Rattle.key_record.proofs.Fields.{holds-unheld, holds-held}
 use Rattle.key_record.proofs.row.holds_kid.Statement.{statement}

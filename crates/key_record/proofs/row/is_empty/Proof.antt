@@ -1,3 +1,4 @@
+-- SPDX-License-Identifier: MIT
 use borrow.Author.Needs.{needs}
 use Rattle.key_record.proofs.Fields.{empty-told}
 use Rattle.key_record.proofs.row.is_empty.Statement.{statement}

@@ -1,3 +1,4 @@
+-- SPDX-License-Identifier: MIT
 use borrow.Author.Needs.{needs}
 use Rattle.key_record.proofs.Fields.{sends-told}
 use Rattle.key_record.proofs.row.is_sending.Statement.{statement}

@@ -1,3 +1,4 @@
+-- SPDX-License-Identifier: MIT
 use borrow.Author.Needs.{needs}
 use Rattle.key_record.proofs.Fields.{kid-told}
 use Rattle.key_record.proofs.row.kid_of.Statement.{statement}

@@ -1,3 +1,4 @@
+-- SPDX-License-Identifier: MIT
 use borrow.Author.Needs.{needs}
 use Rattle.key_record.proofs.Fields.{kind-sending, kind-receiving, kind-retired, kind-empty}
 use Rattle.key_record.proofs.row.kind_of.Statement.{statement}

@@ -1,3 +1,4 @@
+-- SPDX-License-Identifier: MIT
 use borrow.Author.Needs.{needs}
 use Rattle.key_record.proofs.Fields.{window-read}
 use Rattle.key_record.proofs.row.window_of.Statement.{statement}

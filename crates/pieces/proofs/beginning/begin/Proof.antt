@@ -1,3 +1,4 @@
+-- SPDX-License-Identifier: MIT
 use Rattle.pieces.proofs.Begins.{begun-written}
 use mathlib.Core.List.{_++_}
 use lib.ListN.{length, take, drop, length-take, length-drop, length-append}

@@ -1,3 +1,4 @@
+-- SPDX-License-Identifier: MIT
 use Rattle.pieces.proofs.Begins.{begun-gcm}
 use Rattle.pieces.proofs.Steps.{ready}
 use native.Mathlib.Omega.{arith}

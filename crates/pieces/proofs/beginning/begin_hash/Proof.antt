@@ -1,3 +1,4 @@
+-- SPDX-License-Identifier: MIT
 use Rattle.suites.specs.Suites.{Nt}
 use Rattle.pieces.specs.Line.{hashAfter}
 use Rattle.suites.specs.declared.sizes.Mode.{Mode}

@@ -1,3 +1,4 @@
+-- SPDX-License-Identifier: MIT
 use Rattle.octets.proofs.Laws.{part-rest}
 use Rattle.hmac.specs.Hmac.{extended}
 use Rattle.sha2.specs.Sizes.{sha256}

@@ -1,3 +1,4 @@
+-- SPDX-License-Identifier: MIT
 use Rattle.pieces.proofs.Begins.{front-written}
 use native.Mathlib.Omega.{arith}
 use borrow.Author.Needs.{needs}

@@ -1,3 +1,4 @@
+-- SPDX-License-Identifier: MIT
 use Rattle.pieces.proofs.Begins.{key-written}
 use borrow.Author.Needs.{needs}
 use Rattle.pieces.proofs.beginning.write_key.Statement.{statement}

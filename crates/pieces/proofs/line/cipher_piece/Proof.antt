@@ -1,3 +1,4 @@
+-- SPDX-License-Identifier: MIT
 use Rattle.pieces.proofs.Steps.{ready, ciphered}
 use lib.Seq.{length-take-le}
 use lib.ListN.{length, take, drop, length-take, length-drop, length-append}

@@ -1,3 +1,4 @@
+-- SPDX-License-Identifier: MIT
 use Rattle.pieces.proofs.Steps.{context-part}
 use borrow.Author.Needs.{needs}
 use Rattle.pieces.proofs.line.context_of.Statement.{statement}

@@ -1,3 +1,4 @@
+-- SPDX-License-Identifier: MIT
 use lib.ListN.{replicate}
 use Rattle.pieces.proofs.Steps.{ready, ended-gcm}
 use lib.Seq.{length-take-le}

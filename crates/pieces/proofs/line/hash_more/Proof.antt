@@ -1,3 +1,4 @@
+-- SPDX-License-Identifier: MIT
 use mathlib.Core.Path.{_≡_, refl, sym, _∙_, ap}
 use Rattle.ghash.proofs.Laws.{hash-key-ready}
 use Rattle.pieces.proofs.Steps.{ready, lent-hash, more-hmac, more-gcm}

@@ -1,3 +1,4 @@
+-- SPDX-License-Identifier: MIT
 use Rattle.suites.specs.Suites.{Nt}
 use lib.Seq.{take-all}
 use Rattle.suites.proofs.Laws.{Nk-most, Nt-most, ctr-sizes, gcm-sizes}

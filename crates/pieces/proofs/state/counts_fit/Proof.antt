@@ -1,3 +1,4 @@
+-- SPDX-License-Identifier: MIT
 use lib.Dec.{leb}
 use mathlib.Core.Path.{ap₂}
 use Rattle.pieces.proofs.Steps.{counts-few, counts-many, counts-long, counts-last}

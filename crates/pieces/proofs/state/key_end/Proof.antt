@@ -1,3 +1,4 @@
+-- SPDX-License-Identifier: MIT
 use Rattle.suites.proofs.Laws.{Nk-most, Nt-most, ctr-sizes, gcm-sizes}
 use native.Mathlib.Omega.{arith}
 use borrow.Author.Needs.{needs}

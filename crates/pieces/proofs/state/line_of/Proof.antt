@@ -1,3 +1,4 @@
+-- SPDX-License-Identifier: MIT
 use Rattle.pieces.proofs.Steps.{line-short, line-kind, line-counts, line-found}
 use native.Mathlib.Omega.{arith}
 use borrow.Author.Needs.{needs}

@@ -1,3 +1,4 @@
+-- SPDX-License-Identifier: MIT
 use Rattle.secure_objects.specs.Derivation.{derived, moqKey}
 use Rattle.suites.proofs.Laws.{Nk-most}
 use mathlib.Core.Path.{_∙_, ap}

@@ -1,3 +1,4 @@
+-- SPDX-License-Identifier: MIT
 use Rattle.secure_objects.specs.Derivation.{derived, moqSalt}
 use mathlib.Core.Path.{_∙_, ap}
 use borrow.Author.Needs.{needs}

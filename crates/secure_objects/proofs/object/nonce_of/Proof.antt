@@ -1,3 +1,4 @@
+-- SPDX-License-Identifier: MIT
 use Rattle.secure_objects.proofs.Steps.{nonce-made}
 use native.Mathlib.Omega.{arith}
 use mathlib.Core.Path.{refl, _∙_}

@@ -1,3 +1,4 @@
+-- SPDX-License-Identifier: MIT
 use Rattle.secure_objects.proofs.Steps.{secured-is}
 use mathlib.Core.Path.{_∙_}
 use borrow.Author.Needs.{needs}

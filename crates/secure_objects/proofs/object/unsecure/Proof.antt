@@ -1,3 +1,4 @@
+-- SPDX-License-Identifier: MIT
 use Rattle.secure_objects.proofs.Steps.{unsecured-is}
 use Rattle.suites.proofs.Laws.{Nt-most}
 use Rattle.suites.specs.Aead.{isPlain, roomAfter}

@@ -1,3 +1,4 @@
+-- SPDX-License-Identifier: MIT
 -- `sframe_test::aead::repeat` meets its contract: the loop's invariant: out is the block encrypted i times over.
 -- Assumes nothing.
 use mathlib.Core.Path.{_≡_, refl}

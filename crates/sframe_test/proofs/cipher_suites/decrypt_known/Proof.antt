@@ -1,3 +1,4 @@
+-- SPDX-License-Identifier: MIT
 -- `sframe_test::cipher_suites::decrypt_known` meets its contract: the tests leave what decryption requires, and a refusal changes nothing.
 -- Assumes nothing.
 use mathlib.Core.Path.{refl, sym, _∙_, ap}

@@ -1,3 +1,4 @@
+-- SPDX-License-Identifier: MIT
 -- `sframe_test::cipher_suites::encrypt_known` meets its contract: the tests leave what encryption requires, and a refusal changes nothing.
 -- Assumes nothing.
 use mathlib.Core.Path.{refl}

@@ -1,3 +1,4 @@
+-- SPDX-License-Identifier: MIT
 -- `sframe_test::cipher_suites::sframe_test_suite_encrypt` meets its contract: what it answers for a known suite is handed on.
 -- Assumes nothing.
 use mathlib.Core.Path.{refl, sym, _∙_}

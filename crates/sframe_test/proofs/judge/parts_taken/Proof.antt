@@ -1,3 +1,4 @@
+-- SPDX-License-Identifier: MIT
 -- `sframe_test::judge::parts_taken` meets its contract: each test decides one of the bounds.
 -- Assumes nothing.
 use mathlib.Core.Path.{sym}

@@ -1,3 +1,4 @@
+-- SPDX-License-Identifier: MIT
 use Rattle.suites.proofs.Steps.{front-size, front-lent}
 use borrow.Author.Needs.{needs}
 use Rattle.suites.proofs.aead.apply.Statement.{statement}

@@ -1,3 +1,4 @@
+-- SPDX-License-Identifier: MIT
 use Rattle.suites.proofs.Steps.{cipher-key-inside, cipher-key-fits, cipher-context}
 use borrow.Author.Needs.{needs}
 use Rattle.suites.proofs.aead.context.Statement.{statement}

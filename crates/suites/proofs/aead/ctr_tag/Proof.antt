@@ -1,3 +1,4 @@
+-- SPDX-License-Identifier: MIT
 use borrow.Author.Needs.{needs}
 use Rattle.suites.proofs.Steps.{ctr-tag-made}
 use Rattle.suites.proofs.aead.ctr_tag.Statement.{statement}

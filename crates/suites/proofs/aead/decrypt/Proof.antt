@@ -1,3 +1,4 @@
+-- SPDX-License-Identifier: MIT
 use mathlib.Core.Path.{refl, sym, _∙_}
 use mathlib.Core.Bool.{true, false}
 use Prim.Native.Nat.{_-_}

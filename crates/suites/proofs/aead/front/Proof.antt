@@ -1,3 +1,4 @@
+-- SPDX-License-Identifier: MIT
 use mathlib.Core.Path.{sym, _∙_}
 use Rattle.suites.proofs.Steps.{modes-apart}
 use borrow.Author.Needs.{needs}

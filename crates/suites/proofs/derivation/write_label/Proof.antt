@@ -1,3 +1,4 @@
+-- SPDX-License-Identifier: MIT
 use borrow.Author.Needs.{needs}
 use Rattle.suites.proofs.Steps.{label-written}
 use Rattle.suites.proofs.derivation.write_label.Statement.{statement}

@@ -1,3 +1,4 @@
+-- SPDX-License-Identifier: MIT
 use borrow.Author.Tests.{ne-eqb}
 use Rattle.suites.specs.Suites.{suiteOf}
 use Rattle.suites.proofs.sizes.find.Statement.{statement}

@@ -1,3 +1,4 @@
+-- SPDX-License-Identifier: MIT
 use Rattle.track_record.proofs.Steps.{zeros-same}
 use borrow.Author.Needs.{needs}
 use Rattle.track_record.proofs.judging.is_zero.Statement.{statement}

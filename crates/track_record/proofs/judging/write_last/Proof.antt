@@ -1,3 +1,4 @@
+-- SPDX-License-Identifier: MIT
 use Rattle.track_record.proofs.Steps.{last-none, last-written, object-low}
 use native.Mathlib.Omega.{arith}
 use borrow.Author.Needs.{needs}

@@ -1,3 +1,4 @@
+-- SPDX-License-Identifier: MIT
 use Rattle.track_record.proofs.Steps.{advanced-row}
 use native.Mathlib.Omega.{arith}
 use mathlib.Core.Path.{_∙_}

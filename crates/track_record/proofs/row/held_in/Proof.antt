@@ -1,3 +1,4 @@
+-- SPDX-License-Identifier: MIT
 use Rattle.track_record.proofs.Steps.{held-low, held-high, held-long, held-unsuited, held-track}
 use Rattle.track_record.specs.Layout.{suiteAt}
 use native.Mathlib.Omega.{arith}

@@ -1,3 +1,4 @@
+-- SPDX-License-Identifier: MIT
 use Rattle.track_record.proofs.Steps.{holds-not, holds-other, holds-named}
 use Rattle.track_record.specs.Layout.{decode}
 use mathlib.Core.Path.{sym, _∙_}

@@ -1,3 +1,4 @@
+-- SPDX-License-Identifier: MIT
 use mathlib.Core.Path.{refl}
 use Rattle.track_record.proofs.Steps.{below-never, below-group, below-object}
 use native.Mathlib.Omega.{arith}

@@ -1,3 +1,4 @@
+-- SPDX-License-Identifier: MIT
 use Rattle.track_record.specs.Layout.{decode}
 use Rattle.track_record.proofs.Steps.{nothing-empty, something-held}
 use borrow.Author.Needs.{needs}

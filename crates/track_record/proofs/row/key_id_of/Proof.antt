@@ -1,3 +1,4 @@
+-- SPDX-License-Identifier: MIT
 use Rattle.track_record.proofs.Steps.{keyId-read}
 use mathlib.Core.Path.{_∙_}
 use borrow.Author.Needs.{needs}

@@ -1,3 +1,4 @@
+-- SPDX-License-Identifier: MIT
 use Rattle.track_record.proofs.Steps.{key-read}
 use Rattle.suites.proofs.Laws.{Nk-most}
 use native.Mathlib.Omega.{arith}

@@ -1,3 +1,4 @@
+-- SPDX-License-Identifier: MIT
 use Rattle.track_record.proofs.Steps.{kind-retired}
 use Rattle.track_record.specs.Layout.{kindOf}
 use mathlib.Core.Path.{sym, ap}

@@ -1,3 +1,4 @@
+-- SPDX-License-Identifier: MIT
 use Rattle.track_record.proofs.Steps.{name-inside, name-read}
 use native.Mathlib.Omega.{arith}
 use mathlib.Core.Path.{refl}

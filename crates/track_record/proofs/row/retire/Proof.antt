@@ -1,3 +1,4 @@
+-- SPDX-License-Identifier: MIT
 use mathlib.Core.Path.{refl}
 use Rattle.track_record.proofs.Steps.{retired-row}
 use native.Mathlib.Omega.{arith}

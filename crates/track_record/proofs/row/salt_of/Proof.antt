@@ -1,3 +1,4 @@
+-- SPDX-License-Identifier: MIT
 use Rattle.track_record.proofs.Steps.{salt-read}
 use native.Mathlib.Omega.{arith}
 use lib.ListN.{length-take, length-drop}

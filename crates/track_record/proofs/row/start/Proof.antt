@@ -1,3 +1,4 @@
+-- SPDX-License-Identifier: MIT
 use Rattle.track_record.proofs.Steps.{started}
 use Rattle.suites.proofs.Laws.{number-byte}
 use lib.ListN.{length-set}

@@ -1,3 +1,4 @@
+-- SPDX-License-Identifier: MIT
 use Rattle.track_record.proofs.Steps.{pair-written}
 use lib.ListN.{length-set}
 use native.Mathlib.Omega.{arith}
