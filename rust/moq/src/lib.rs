@@ -30,7 +30,7 @@
 //! # Features
 //!
 //! Without any the crate needs `core` alone. `alloc` adds the calls that answer a
-//! vector; `std`, which is on by default, adds `alloc` and a [`Refusal`] as a
+//! vector and a store in bytes of its own; `std`, which is on by default, adds `alloc` and a [`Refusal`] as a
 //! `std::io::Error`.
 
 #![no_std]
@@ -44,11 +44,15 @@ extern crate std;
 
 #[allow(unsafe_code)]
 pub mod ffi;
+#[cfg(feature = "alloc")]
+mod owned;
 #[allow(unsafe_code)]
 pub mod raw;
 mod refusal;
 mod store;
 
+#[cfg(feature = "alloc")]
+pub use owned::OwnedTrackStore;
 pub use refusal::Refusal;
 pub use sframe::{wipe, Role, Suite, MAX_BASE_KEY, MAX_PLAINTEXT, MIN_BASE_KEY};
 pub use store::{KeyId, Location, Properties, Track, TrackStore};
