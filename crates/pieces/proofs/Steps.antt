@@ -137,7 +137,7 @@ ready k ctx c = subst (λ (x : List ℕ). Context x ctx) (sym (c .keyed)) c
 
 -- ---- a piece
 
-pub ciphered : (s ctx l o : List ℕ) (suite : Suite) (count taken : ℕ) → Context (cipherKey suite (keyIn suite s)) ctx → count ≡ firstCount (modeOf suite)
+ciphered : (s ctx l o : List ℕ) (suite : Suite) (count taken : ℕ) → Context (cipherKey suite (keyIn suite s)) ctx → count ≡ firstCount (modeOf suite)
     → taken ≡ takenIn s → o ≡ ctrFrom (keyOf ctx) (nonceIn s) count taken l → o ≡ cipherPiece suite s l
 unfolding cipherPiece
 ciphered s ctx l o suite count taken c e f g = g ∙ rw (c .keyed, e, f)
@@ -149,24 +149,33 @@ lent-hash s p h l k e =
     let m : length h ≡ 96 = ap length (sym e) ∙ k ∙ length-take-le 96 (drop 72 s) (rw (length-drop 72 s) (omega arith)) in
     rw (e, m) (ap (λ (t : List ℕ). take 72 s ++ (h ++ t)) (drop-drop 96 72 s))
 
-pub more-hmac : (s c p : List ℕ) (suite : Suite) (m : Mode) (a t n : ℕ) → m ≡ modeOf suite → m ≡ CtrHmac → a ≡ aadIn s → t ≡ takenIn s → n ≡ 100 + a + t
+pub more-hmac : (s c p : List ℕ) (suite : Suite) (a t n : ℕ) → modeOf suite ≡ CtrHmac → a ≡ aadIn s → t ≡ takenIn s → n ≡ 100 + a + t
     → p ≡ fedHash n (hashIn s) c → p ≡ hashMore (modeOf suite) (keyIn suite s) (aadIn s) (takenIn s) (hashIn s) c
-more-hmac s c p suite m a t n e f u v w g =
+more-hmac s c p suite a t n e u v w g =
     let q : n ≡ before (aadIn s) + takenIn s = omega arith in
-    g ∙ ap (λ (i : ℕ). fedHash i (hashIn s) c) q ∙ ap (λ (x : Mode). hashMore x (keyIn suite s) (aadIn s) (takenIn s) (hashIn s) c) (sym f ∙ e)
+    g ∙ ap (λ (i : ℕ). fedHash i (hashIn s) c) q ∙ ap (λ (x : Mode). hashMore x (keyIn suite s) (aadIn s) (takenIn s) (hashIn s) c) (sym e)
+
+pub more-gcm : (s c p h : List ℕ) (suite : Suite) (t n : ℕ) → modeOf suite ≡ Gcm → HashKey (hashKey (keyIn suite s)) h → t ≡ takenIn s → n ≡ t % 16
+    → p ≡ fedBlocks (hashKeyOf h) n (hashIn s) c → p ≡ hashMore (modeOf suite) (keyIn suite s) (aadIn s) (takenIn s) (hashIn s) c
+more-gcm s c p h suite t n e k u v g =
+    g ∙ ap₂ (λ (i j : ℕ). fedBlocks i j (hashIn s) c) (hash-key-of k) (v ∙ ap (λ (i : ℕ). i % 16) u)
+    ∙ ap (λ (y : Mode). hashMore y (keyIn suite s) (aadIn s) (takenIn s) (hashIn s) c) (sym e)
 
 -- The hash key of the key in a state, with GCM.
-gcm-key : (s ctx h : List ℕ) (suite : Suite) (m : Mode) → 168 ≤ length s → m ≡ modeOf suite → m ≡ Gcm → Context (cipherKey suite (keyIn suite s)) ctx
-    → HashKey (hashKey (keyOf ctx)) h → hashKeyOf h ≡ hashKey (keyIn suite s)
-gcm-key s ctx h suite m l e f c k =
-    hash-key-of k ∙ ap hashKey (c .keyed ∙ whole-key suite (keyIn suite s) (sym e ∙ f) (key-sized s suite l))
+gcm-key : (s ctx : List ℕ) (suite : Suite) → 168 ≤ length s → modeOf suite ≡ Gcm → Context (cipherKey suite (keyIn suite s)) ctx → keyOf ctx ≡ keyIn suite s
+gcm-key s ctx suite l e c = c .keyed ∙ whole-key suite (keyIn suite s) e (key-sized s suite l)
 
-pub more-gcm : (s c p ctx h : List ℕ) (suite : Suite) (m : Mode) (t n : ℕ) → 168 ≤ length s → m ≡ modeOf suite → m ≡ Gcm
-    → Context (cipherKey suite (keyIn suite s)) ctx → HashKey (hashKey (keyOf ctx)) h → t ≡ takenIn s → n ≡ t % 16
-    → p ≡ fedBlocks (hashKeyOf h) n (hashIn s) c → p ≡ hashMore (modeOf suite) (keyIn suite s) (aadIn s) (takenIn s) (hashIn s) c
-more-gcm s c p ctx h suite m t n l e f x k u v g =
-    g ∙ ap₂ (λ (i j : ℕ). fedBlocks i j (hashIn s) c) (gcm-key s ctx h suite m l e f x k) (v ∙ ap (λ (i : ℕ). i % 16) u)
-    ∙ ap (λ (y : Mode). hashMore y (keyIn suite s) (aadIn s) (takenIn s) (hashIn s) c) (sym f ∙ e)
+pub state-key : (s ctx h : List ℕ) (suite : Suite) → 168 ≤ length s → modeOf suite ≡ Gcm → Context (cipherKey suite (keyIn suite s)) ctx
+    → HashKey (hashKey (keyOf ctx)) h → HashKey (hashKey (keyIn suite s)) h
+state-key s ctx h suite l e c k = subst (λ (x : List ℕ). HashKey (hashKey x) h) (gcm-key s ctx suite l e c) k
+
+-- A piece that is encrypted, and taken.
+pub sealed : (s ctx l o r : List ℕ) (suite : Suite) (count taken : ℕ) (m : Mode) → Context (cipherKey suite (keyIn suite s)) ctx → modeOf suite ≡ m → count ≡ firstCount m
+    → taken ≡ takenIn s → o ≡ ctrFrom (keyOf ctx) (nonceIn s) count taken l → r ≡ after suite s o
+    → (r ≡ after suite s (cipherPiece suite s l)) × (o ≡ cipherPiece suite s l)
+sealed s ctx l o r suite count taken m c e f g h k =
+    let q : o ≡ cipherPiece suite s l = ciphered s ctx l o suite count taken c (f ∙ ap firstCount (sym e)) g h in
+    (k ∙ ap (after suite s) q, q)
 
 -- The count is written in front of the hash.
 pub taken-in : (s h o r : List ℕ) (suite : Suite) (c : List ℕ) (t : ℕ) → 168 ≤ length s → t ≡ takenIn s
@@ -243,8 +252,8 @@ pub ended-gcm : (s ctx f h o t z : List ℕ) (suite : Suite) (a v n y x r : ℕ)
     → r ≡ product x (hashKeyOf h) → length z ≡ 16 → o ≡ bytes 16 r ++ drop 16 z → t ≡ xors o (take 16 (drop 16 f)) → t ≡ tagIn suite s
 unfolding tagIn counterBlock
 ended-gcm s ctx f h o t z suite a v n y x r l e c b k ea ev en ey ex er lz eo et =
-    let g : hashKeyOf h ≡ hashKey (keyIn suite s) = gcm-key s ctx h suite Gcm l (sym e) refl c k in
-    let w : keyOf ctx ≡ keyIn suite s = c .keyed ∙ whole-key suite (keyIn suite s) e (key-sized s suite l) in
+    let w : keyOf ctx ≡ keyIn suite s = gcm-key s ctx suite l e c in
+    let g : hashKeyOf h ≡ hashKey (keyIn suite s) = hash-key-of k ∙ ap hashKey w in
     let d : drop 16 z ≡ [] = drop-of-length-le z {i = 16} (omega arith) in
     let p : a * 8 ≡ 8 * aadIn s = omega arith in
     let q : v * 8 ≡ 8 * takenIn s = omega arith in
@@ -255,11 +264,6 @@ ended-gcm s ctx f h o t z suite a v n y x r l e c b k ea ev en ey ex er lz eo et
 pub cipher-length : (suite : Suite) (s l : List ℕ) → length (cipherPiece suite s l) ≡ length l
 unfolding cipherPiece
 cipher-length suite s l = from-length (cipherKey suite (keyIn suite s)) (nonceIn s) (firstCount (modeOf suite)) (takenIn s) l
-
-pub read-back : (room p x : List ℕ) (n : ℕ) → length x ≡ n → p ≡ x → take (n - 0) (p ++ drop (n - 0) room) ≡ x
-read-back room p x n l e =
-    let d : n - 0 ≡ n = omega arith in
-    rw (e, d) (take-at x (drop n room) n l)
 
 pub first-part : (t g : List ℕ) (n m : ℕ) → n ≡ m → take m t ≡ g → take (n - 0) t ≡ g
 first-part t g n m e f = let d : n - 0 ≡ m = omega arith in rw d f

@@ -13,8 +13,7 @@ use answers::STATE_MISMATCH;
 use answers::TAG_DIFFERS;
 use answers::refused;
 pub use beginning::begin;
-use line::cipher_piece;
-use line::context_of;
+use line::seal_in;
 use line::tag_of;
 use line::take_in;
 pub use state::CHECKING;
@@ -57,9 +56,7 @@ fn encrypt_piece(suite: Suite, state: &mut [u8], piece: &[u8], room: &mut [u8])
     ensures { λ _. ⌜ now (room .exit) ≡ pasted (now (room .entry)) 0 (cipherPiece suite (now (state .entry)) (now (piece .entry))) ⌝ }
 {
     let n = piece.len();
-    let ctx = context_of(state, suite);
-    cipher_piece(suite, &ctx, state, piece, &mut room[0..n]);
-    take_in(suite, &ctx, state, &room[0..n]);
+    seal_in(suite, state, piece, &mut room[0..n]);
 }
 
 // Seals a piece: its ciphertext stands at the front of the room.
@@ -118,8 +115,7 @@ pub fn check_piece(state: &mut [u8], piece: &[u8]) -> u32
     if is_past(state, piece.len()) {
         return STATE_MISMATCH;
     }
-    let ctx = context_of(state, suite);
-    take_in(suite, &ctx, state, piece);
+    take_in(suite, state, piece);
     DONE
 }
 

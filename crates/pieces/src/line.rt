@@ -13,10 +13,9 @@ use gcm::TAG;
 use suites::Suite;
 use suites::sizes::Mode;
 ghost use mathlib.Core.Path.{_≡_};
-ghost use mathlib.Core.List.{_++_};
 ghost use Prim.Native.Nat.{_+_, _≤_};
 ghost use lib.ListN.{length, take};
-ghost use Rattle.octets.specs.Octets.{pasted};
+ghost use Rattle.octets.specs.Octets.{bytes, pasted};
 ghost use Rattle.aes_keys.specs.inner.Keys.{Context, Ready, keyOf};
 ghost use Rattle.ghash.specs.inner.HashKey.{HashKey};
 ghost use Rattle.gcm.specs.Counter.{nonceSize};
@@ -24,15 +23,18 @@ ghost use Rattle.gcm.specs.Gcm.{hashKey, tagSize};
 ghost use Rattle.answers.specs.Limits.{maxPlaintext};
 ghost use Rattle.suites.specs.Suites.{modeOf, Nt};
 ghost use Rattle.suites.specs.declared.sizes.Mode.the-variants.{CtrHmac, Gcm};
-ghost use Rattle.suites.specs.Aead.{cipherKey, firstCount};
-ghost use Rattle.pieces.specs.State.{stateSize, atHash, aadIn, takenIn, nonceIn, keyIn, hashIn};
-ghost use Rattle.pieces.specs.Line.{hashMore, after, cipherPiece, tagFrom, tagIn};
+ghost use Rattle.suites.specs.Aead.{cipherKey};
+ghost use Rattle.pieces.specs.State.{stateSize, atTaken, takenIn, keyIn};
+ghost use Rattle.pieces.specs.Line.{after, cipherPiece, tagIn};
 
 // What the inner hash has taken before the associated data: a block of the key, three lengths, the nonce.
 const BEFORE: u64 = 100;
 
 // The bytes of a block of GHASH.
 const BLOCK: u64 = 16;
+
+// The first block count of the data in GCM.
+const FIRST: u32 = 2;
 
 // Where the key of HMAC starts and ends.
 const AUTH: usize = KEY + 16;
@@ -59,60 +61,90 @@ pub fn hash_key(ctx: &Context, nonce: &[u8]) -> ghash::HashKey
     gcm::hash_key(ctx, nonce, &f)
 }
 
-// The first block count of a suite's data.
-fn first_count(suite: Suite) -> u32
-    ensures { λ r. ⌜ (r ≡ firstCount (modeOf suite)) × (r ≤ 2) ⌝ }
+// Writes the count of the bytes taken: n more than taken.
+fn count(state: &mut [u8], taken: u64, n: usize)
+    requires { ⌜ (stateSize ≤ length (now state)) × (taken + n ≤ maxPlaintext) ⌝ }
+    ensures { λ _. ⌜ now (state .exit) ≡ pasted (now (state .entry)) atTaken (bytes 4 (taken + n)) ⌝ }
 {
-    match suite.mode() {
-        Mode::CtrHmac => 0,
-        Mode::Gcm => 2,
-    }
+    octets::write_be_at(state, TAKEN, 4, taken + n as u64);
 }
 
-// Writes the ciphertext of a piece.
-pub fn cipher_piece(suite: Suite, ctx: &Context, state: &[u8], piece: &[u8], out: &mut [u8])
-    requires { ⌜ (stateSize ≤ length (now state)) × Context (cipherKey suite (keyIn suite (now state))) (now ctx) ⌝ }
-    requires { ⌜ (takenIn (now state) + length (now piece) ≤ maxPlaintext) × (length (now out) ≡ length (now piece)) ⌝ }
-    ensures { λ _. ⌜ now (out .exit) ≡ cipherPiece suite (now (state .entry)) (now (piece .entry)) ⌝ }
-{
-    let count = first_count(suite);
-    let taken = taken_of(state) as usize;
-    piece_stream::apply_from(ctx, &state[NONCE..KEY], count, taken, piece, out);
-}
-
-// The running hash in a state takes the ciphertext c.
-fn hash_more(suite: Suite, ctx: &Context, state: &mut [u8], c: &[u8])
-    requires { ⌜ (stateSize ≤ length (now state)) × Context (cipherKey suite (keyIn suite (now state))) (now ctx) ⌝ }
-    requires { ⌜ takenIn (now state) + length (now c) ≤ maxPlaintext ⌝ }
-    ensures { λ _. ⌜ now (state .exit) ≡ pasted (now (state .entry)) atHash (hashMore (modeOf suite) (keyIn suite (now (state .entry))) (aadIn (now (state .entry))) (takenIn (now (state .entry))) (hashIn (now (state .entry))) (now (c .entry))) ⌝ }
-{
-    let taken = taken_of(state);
-    match suite.mode() {
-        Mode::CtrHmac => {
-            let n = BEFORE + aad_of(state) + taken;
-            piece_hash::feed(&mut state[HASH..STATE_SIZE], n, c);
-        }
-        Mode::Gcm => {
-            let t = hash_key(ctx, &state[NONCE..KEY]);
-            piece_hash::feed_blocks(
-                &t,
-                &mut state[HASH..STATE_SIZE],
-                (taken % BLOCK) as usize,
-                c,
-            );
-        }
-    }
-}
-
-// A state takes the ciphertext c.
-pub fn take_in(suite: Suite, ctx: &Context, state: &mut [u8], c: &[u8])
-    requires { ⌜ (stateSize ≤ length (now state)) × Context (cipherKey suite (keyIn suite (now state))) (now ctx) ⌝ }
-    requires { ⌜ takenIn (now state) + length (now c) ≤ maxPlaintext ⌝ }
+// A state with HMAC takes the ciphertext c.
+fn take_hmac(suite: Suite, state: &mut [u8], c: &[u8])
+    requires { ⌜ (stateSize ≤ length (now state)) × (modeOf suite ≡ CtrHmac) × (takenIn (now state) + length (now c) ≤ maxPlaintext) ⌝ }
     ensures { λ _. ⌜ now (state .exit) ≡ after suite (now (state .entry)) (now (c .entry)) ⌝ }
 {
     let taken = taken_of(state);
-    hash_more(suite, ctx, state, c);
-    octets::write_be_at(state, TAKEN, 4, taken + c.len() as u64);
+    let n = BEFORE + aad_of(state) + taken;
+    piece_hash::feed(&mut state[HASH..STATE_SIZE], n, c);
+    count(state, taken, c.len());
+}
+
+// The same with GCM and its hash key.
+fn take_gcm(suite: Suite, h: &ghash::HashKey, state: &mut [u8], c: &[u8])
+    requires { ⌜ (stateSize ≤ length (now state)) × (modeOf suite ≡ Gcm) × (takenIn (now state) + length (now c) ≤ maxPlaintext) ⌝ }
+    requires { ⌜ HashKey (hashKey (keyIn suite (now state))) (now h) ⌝ }
+    ensures { λ _. ⌜ now (state .exit) ≡ after suite (now (state .entry)) (now (c .entry)) ⌝ }
+{
+    let taken = taken_of(state);
+    let i = (taken % BLOCK) as usize;
+    piece_hash::feed_blocks(h, &mut state[HASH..STATE_SIZE], i, c);
+    count(state, taken, c.len());
+}
+
+// A state takes the ciphertext c.
+pub fn take_in(suite: Suite, state: &mut [u8], c: &[u8])
+    requires { ⌜ (stateSize ≤ length (now state)) × (takenIn (now state) + length (now c) ≤ maxPlaintext) ⌝ }
+    ensures { λ _. ⌜ now (state .exit) ≡ after suite (now (state .entry)) (now (c .entry)) ⌝ }
+{
+    match suite.mode() {
+        Mode::CtrHmac => take_hmac(suite, state, c),
+        Mode::Gcm => {
+            let ctx = context_of(state, suite);
+            let h = hash_key(&ctx, &state[NONCE..KEY]);
+            take_gcm(suite, &h, state, c);
+        }
+    }
+}
+
+// Writes the ciphertext of a piece with HMAC, and takes it.
+fn seal_hmac(suite: Suite, state: &mut [u8], piece: &[u8], out: &mut [u8])
+    requires { ⌜ (stateSize ≤ length (now state)) × (modeOf suite ≡ CtrHmac) ⌝ }
+    requires { ⌜ (takenIn (now state) + length (now piece) ≤ maxPlaintext) × (length (now out) ≡ length (now piece)) ⌝ }
+    ensures { λ _. ⌜ now (state .exit) ≡ after suite (now (state .entry)) (cipherPiece suite (now (state .entry)) (now (piece .entry))) ⌝ }
+    ensures { λ _. ⌜ now (out .exit) ≡ cipherPiece suite (now (state .entry)) (now (piece .entry)) ⌝ }
+{
+    let ctx = context_of(state, suite);
+    let taken = taken_of(state) as usize;
+    piece_stream::apply_from(&ctx, &state[NONCE..KEY], 0, taken, piece, out);
+    take_hmac(suite, state, out);
+}
+
+// The same with GCM: one front has the first blocks of key stream and the block of the hash key.
+fn seal_gcm(suite: Suite, state: &mut [u8], piece: &[u8], out: &mut [u8])
+    requires { ⌜ (stateSize ≤ length (now state)) × (modeOf suite ≡ Gcm) ⌝ }
+    requires { ⌜ (takenIn (now state) + length (now piece) ≤ maxPlaintext) × (length (now out) ≡ length (now piece)) ⌝ }
+    ensures { λ _. ⌜ now (state .exit) ≡ after suite (now (state .entry)) (cipherPiece suite (now (state .entry)) (now (piece .entry))) ⌝ }
+    ensures { λ _. ⌜ now (out .exit) ≡ cipherPiece suite (now (state .entry)) (now (piece .entry)) ⌝ }
+{
+    let ctx = context_of(state, suite);
+    let taken = taken_of(state) as usize;
+    let f = piece_stream::front(&ctx, &state[NONCE..KEY], FIRST, taken);
+    piece_stream::apply_front(&ctx, &state[NONCE..KEY], &f, FIRST, taken, piece, out);
+    let h = gcm::hash_key_of(&ctx, &f);
+    take_gcm(suite, &h, state, out);
+}
+
+// Writes the ciphertext of a piece, and takes it.
+pub fn seal_in(suite: Suite, state: &mut [u8], piece: &[u8], out: &mut [u8])
+    requires { ⌜ (stateSize ≤ length (now state)) × (takenIn (now state) + length (now piece) ≤ maxPlaintext) × (length (now out) ≡ length (now piece)) ⌝ }
+    ensures { λ _. ⌜ now (state .exit) ≡ after suite (now (state .entry)) (cipherPiece suite (now (state .entry)) (now (piece .entry))) ⌝ }
+    ensures { λ _. ⌜ now (out .exit) ≡ cipherPiece suite (now (state .entry)) (now (piece .entry)) ⌝ }
+{
+    match suite.mode() {
+        Mode::CtrHmac => seal_hmac(suite, state, piece, out),
+        Mode::Gcm => seal_gcm(suite, state, piece, out),
+    }
 }
 
 // Of which the first Nt bytes are the tag of a suite with HMAC.
