@@ -1,17 +1,11 @@
 -- SPDX-License-Identifier: MIT
-use Rattle.pieces.proofs.CallSteps.{within, piece-unknown, piece-past, piece-short, piece-taken, end-unknown, end-early, end-short, end-written, check-unknown, check-past, check-done, tag-unknown, tag-early, tag-length, tag-differs, tag-same}
-use Rattle.pieces.proofs.Steps.{known-possible}
-use Rattle.pieces.specs.State.{sealing, checking, takenIn, announcedIn, aadIn, keyIn, nonceIn, hashIn}
-use native.Mathlib.Omega.{arith}
-use mathlib.Core.Path.{_≡_, refl, sym, _∙_, ap}
+use Rattle.pieces.proofs.CallSteps.{within, check-unknown, check-past, check-done}
+use Rattle.piece_line.proofs.Steps.{known-possible}
+use Rattle.piece_line.specs.State.{checking}
+use mathlib.Core.Path.{_∙_}
 use borrow.Author.Needs.{needs}
 use Rattle.pieces.proofs.check_piece.Statement.{statement}
 use Rattle.pieces.proofs.check_piece.Tie as tie
-use Rattle.pieces.proofs.check_piece.Reads as reads
-use Rattle.pieces.proofs.check_piece.Lts as lts
-use Rattle.pieces.proofs.is_past.Reads as is-past-reads
-use Rattle.pieces.proofs.line.take_in.Reads as take-in-reads
-use Rattle.pieces.proofs.state.line_of.Reads as line-of-reads
 
 line-of-requires : tie.Need-line-of-requires
 line-of-requires c κs = search needs

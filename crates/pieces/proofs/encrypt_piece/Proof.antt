@@ -1,6 +1,7 @@
 -- SPDX-License-Identifier: MIT
 use lib.ListN.{length}
-use Rattle.pieces.proofs.Steps.{lent-front, cipher-length}
+use Rattle.piece_line.proofs.Steps.{cipher-length}
+use Rattle.pieces.proofs.CallSteps.{lent-front}
 use borrow.Author.Needs.{needs}
 use Rattle.pieces.proofs.encrypt_piece.Statement.{statement}
 use Rattle.pieces.proofs.encrypt_piece.Tie as tie
