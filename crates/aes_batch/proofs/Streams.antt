@@ -51,14 +51,14 @@ zeros-state : stateOf (replicate 16 0) ≡ 0 ∷ 0 ∷ 0 ∷ 0 ∷ []
 unfolding stateOf number
 zeros-state = refl
 
-pub fronted : (key nonce q v t l : List ℕ) → length nonce ≡ 12 → Counters nonce 0 q → Each Clearing 4 q v → Encrypted key v t → Unsliced t l
-    → Blocks key (frontOf nonce) l
-fronted key nonce q v t l n f z e u = record { sized = u .sized; each = at }
+pub fronted : (key nonce : List ℕ) (count : ℕ) (q v t l : List ℕ) → length nonce ≡ 12 → count < 2 ^ 32 → count % 16 ≡ 0
+    → Counters nonce count q → Each Clearing 4 q v → Encrypted key v t → Unsliced t l → Blocks key (frontOf nonce count) l
+fronted key nonce count q v t l n c d f z e u = record { sized = u .sized; each = at }
   where
-    at : (m : ℕ) → m < 16 → blockAt l m ≡ encrypt key (frontOf nonce m)
+    at : (m : ℕ) → m < 16 → blockAt l m ≡ encrypt key (frontOf nonce count m)
     at zero h = block-made key v t l _ 0 h e u (first-cleared q v z ∙ sym zeros-state)
     at (suc m) h =
-        let g : 0 + numberOf (laneOf (suc m)) ≡ suc m = omega arith in
+        let g : count + numberOf (laneOf (suc m)) ≡ count + suc m = omega arith in
         block-made key v t l _ (suc m) h e u
         (others-kept q v z (laneOf (suc m)) (omega arith) (omega arith) ∙ f .each (laneOf (suc m)) (omega arith)
-        ∙ rw g (sym (counter-state nonce (suc m) n (omega arith))))
+        ∙ rw g (sym (counter-state nonce (count + suc m) n (omega (arith, c, d, h)))))

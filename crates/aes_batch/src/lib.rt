@@ -171,13 +171,13 @@ pub fn stream(ctx: &Context, nonce: &[u8], count: u32) -> Batch
     unslice(&mut q)
 }
 
-// The encrypted block of zeros, and then the encrypted counter blocks 1 to 15 of a nonce.
-pub fn front(ctx: &Context, nonce: &[u8]) -> Batch
-    requires { ⌜ (Ready (now ctx)) × (length (now nonce) ≡ 12) ⌝ }
-    ensures { λ r. ⌜ Blocks (keyOf (now (ctx .entry))) (frontOf (now (nonce .entry))) r ⌝ }
+// The same with the encrypted block of zeros in the place of the first.
+pub fn front(ctx: &Context, nonce: &[u8], count: u32) -> Batch
+    requires { ⌜ (Ready (now ctx)) × (length (now nonce) ≡ 12) × (count % 16 ≡ 0) ⌝ }
+    ensures { λ r. ⌜ Blocks (keyOf (now (ctx .entry))) (frontOf (now (nonce .entry)) count) r ⌝ }
 {
     let mut q = [0u64; 32];
-    counters(&mut q, nonce, 0);
+    counters(&mut q, nonce, count);
     clear_first(&mut q);
     encrypt(ctx, &mut q);
     unslice(&mut q)

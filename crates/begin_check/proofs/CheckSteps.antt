@@ -19,7 +19,7 @@ use Rattle.header.specs.declared.Reading.the-variants.{Header, Invalid}
 use Rattle.answers.specs.Answers.{done, storeInvalid, kidMissing, roleRefused, inputTooLong, first, Outcome, settledOn}
 use Rattle.answers.specs.Limits.{tooLong}
 use Rattle.answers.proofs.Basics.{told-false, told-true}
-use Rattle.pieces.specs.State.{stateSize, checking}
+use Rattle.piece_line.specs.State.{stateSize, checking}
 use Rattle.key_record.specs.Layout.{decode}
 use Rattle.key_record.specs.Record.{KeyRecord, empty, isEmpty, isReceiving}
 use Rattle.key_record.proofs.KindLaws.{receives-held, holds-some}

@@ -11,7 +11,7 @@ use Rattle.header.specs.Answers.{readKid, readCtr, readLength}
 use Rattle.header.specs.declared.Reading.{Reading}
 use Rattle.answers.specs.Answers.{first, Outcome}
 use Rattle.answers.proofs.Basics.{RefusalOn, settled-on-store}
-use Rattle.pieces.specs.State.{checking}
+use Rattle.piece_line.specs.State.{checking}
 use Rattle.store.specs.Cipher.{Cipher}
 use Rattle.key_record.specs.Record.{KeyRecord}
 use Rattle.store.specs.Store.{records, sound}

@@ -13,7 +13,7 @@ use Rattle.header.specs.Answers.{headerInvalid, roomShort, readNumber, readKid,
 use Rattle.header.specs.declared.Reading.{Reading}
 use Rattle.answers.specs.Answers.{storeInvalid, kidMissing, roleRefused, inputTooLong, Cause, _if_, first, Outcome, settledOn}
 use Rattle.answers.specs.Limits.{tooLong}
-use Rattle.pieces.specs.State.{stateSize, checking}
+use Rattle.piece_line.specs.State.{stateSize, checking}
 use Rattle.begin_state.specs.Begin.{firstState}
 use Rattle.store.specs.Cipher.{Cipher}
 use Rattle.key_record.specs.Record.{KeyRecord, isEmpty, isReceiving}

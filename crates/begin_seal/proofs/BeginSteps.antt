@@ -18,7 +18,7 @@ use Rattle.answers.specs.Answers.{done, storeInvalid, kidMissing, roleRefused, 
 use Rattle.answers.specs.Limits.{maxPlaintext, maxMetadata, tooLong}
 use Rattle.answers.proofs.Basics.{told-false, passes, settled-on-refused}
 use Rattle.answers.proofs.Limits.{not-long}
-use Rattle.pieces.specs.State.{stateSize, sealing}
+use Rattle.piece_line.specs.State.{stateSize, sealing}
 use Rattle.key_record.specs.Layout.{decode}
 use Rattle.key_record.specs.Record.{ceiling, KeyRecord, empty, isEmpty, isSending, counterOf, advanced}
 use Rattle.key_record.specs.inner.Rows.{counterLeft}

@@ -16,7 +16,7 @@ use Rattle.answers.specs.Answers.{storeInvalid, kidMissing, roleRefused, counte
 use Rattle.answers.specs.Limits.{maxPlaintext, maxMetadata, tooLong}
 use Rattle.answers.proofs.Basics.{RefusalOn, SettledOn, success, refusal, settle-on}
 use Rattle.answers.proofs.Limits.{not-long}
-use Rattle.pieces.specs.State.{stateSize, sealing}
+use Rattle.piece_line.specs.State.{stateSize, sealing}
 use Rattle.store.specs.Cipher.{Cipher}
 use Rattle.key_record.specs.Record.{ceiling, SendingKey, KeyRecord, empty, sending, receiving, retired, isEmpty, isSending, counterOf, advanced, holds}
 use Rattle.key_record.proofs.Codec.{Fit}

@@ -11,7 +11,7 @@ use Rattle.octets.specs.Octets.{pasted}
 use Rattle.header.specs.Header.{header}
 use Rattle.header.specs.Answers.{roomShort}
 use Rattle.answers.specs.Answers.{Cause, _if_, first, Outcome, settledOn}
-use Rattle.pieces.specs.State.{stateSize, sealing}
+use Rattle.piece_line.specs.State.{stateSize, sealing}
 use Rattle.begin_state.specs.Begin.{firstState}
 use Rattle.store.specs.Cipher.{Cipher}
 use Rattle.key_record.specs.Record.{KeyRecord, counterOf, advanced}

@@ -22,7 +22,7 @@ ghost use lib.ListN.{length};
 ghost use Rattle.octets.specs.Octets.{pasted};
 ghost use Rattle.header.specs.Header.{header};
 ghost use Rattle.answers.specs.Answers.{done, first};
-ghost use Rattle.pieces.specs.State.{sealing};
+ghost use Rattle.piece_line.specs.State.{sealing};
 ghost use Rattle.key_record.specs.Layout.{decode};
 ghost use Rattle.key_record.specs.Record.{isEmpty, isSending, counterOf};
 ghost use Rattle.key_record.specs.inner.Rows.{Row, counterLeft};

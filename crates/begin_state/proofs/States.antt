@@ -9,7 +9,7 @@ use Rattle.suites.specs.Derivation.{nonce}
 use Rattle.suites.specs.Suites.{suiteOf as named}
 use Rattle.suites.specs.declared.sizes.Found.{Found}
 use Rattle.suites.specs.declared.sizes.Suite.{Suite}
-use Rattle.pieces.specs.Line.{begun}
+use Rattle.piece_line.specs.Line.{begun}
 use Rattle.key_record.specs.Record.{KeyRecord, empty, sending, receiving, retired, isEmpty, suiteOf, saltOf, keyOf}
 use Rattle.key_record.specs.Suites.{withSuite}
 use Rattle.key_record.specs.inner.Rows.{Numbered, hasKey}

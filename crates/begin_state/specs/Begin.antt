@@ -3,7 +3,7 @@
 use mathlib.Core.List.{List, []}
 use Prim.Native.Nat.{ℕ}
 use Rattle.suites.specs.Suites.{suiteOf as named}
-use Rattle.pieces.specs.Line.{begun}
+use Rattle.piece_line.specs.Line.{begun}
 use Rattle.store.specs.Cipher.{Cipher}
 use Rattle.key_record.specs.Suites.{withSuite}
 use Rattle.key_record.specs.Record.{KeyRecord, suiteOf, saltOf, keyOf}

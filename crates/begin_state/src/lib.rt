@@ -10,7 +10,7 @@ ghost use lib.ListN.{length};
 ghost use Rattle.octets.specs.Octets.{pasted};
 ghost use Rattle.header.specs.Header.{maxHeader};
 ghost use Rattle.answers.specs.Limits.{maxPlaintext, maxMetadata};
-ghost use Rattle.pieces.specs.State.{stateSize};
+ghost use Rattle.piece_line.specs.State.{stateSize};
 ghost use Rattle.key_record.specs.Layout.{decode};
 ghost use Rattle.key_record.specs.Record.{suiteOf};
 ghost use Rattle.key_record.specs.inner.Rows.{Row, Numbered, hasKey};

@@ -20,8 +20,8 @@ use Rattle.suites.specs.Aead as Aead
 use Rattle.suites.specs.Aead.{cipherKey, firstCount, ciphertext}
 use Rattle.suites.proofs.Laws.{ctr-not-gcm, whole-key}
 use Rattle.piece_stream.specs.CounterFrom.{ctrFrom}
-use Rattle.pieces.specs.State.{aadIn, takenIn, nonceIn, keyIn, hashIn}
-use Rattle.pieces.specs.Line.{hashAfter, front, keyField, stateAfter, begun, hashMore, after, cipherPiece, tagFrom, tagIn}
+use Rattle.piece_line.specs.State.{aadIn, takenIn, nonceIn, keyIn, hashIn}
+use Rattle.piece_line.specs.Line.{hashAfter, front, keyField, stateAfter, begun, hashMore, after, cipherPiece, tagFrom, tagIn}
 use Rattle.cipher_inputs.specs.AnyCipher.{aes, streamBy, hashKeyBy, maskBy, ciphertextBy, tagBy, aeadBy, hashAfterBy, begunBy, cipherPieceBy, hashMoreBy, afterBy, tagFromBy, tagInBy}
 
 stream-is : (key nonce : List ℕ) (count n : ℕ) → keyStream key nonce count n ≡ streamBy (λ b. Aes.encrypt key b) nonce count n

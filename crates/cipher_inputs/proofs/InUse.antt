@@ -8,10 +8,10 @@ use lib.ListN.{length}
 use Rattle.suites.specs.declared.sizes.Suite.{Suite}
 use Rattle.suites.specs.Suites.{modeOf, Nk}
 use Rattle.suites.specs.Aead.{encrypt}
-use Rattle.pieces.specs.State.{announcedIn, nonceIn, keyIn}
-use Rattle.pieces.specs.Line.{stateAfter, begun, after, cipherPiece, tagIn}
+use Rattle.piece_line.specs.State.{announcedIn, nonceIn, keyIn}
+use Rattle.piece_line.specs.Line.{stateAfter, begun, after, cipherPiece, tagIn}
 use Rattle.pieces.specs.Calls.{past}
-use Rattle.pieces.proofs.Lines as Line
+use Rattle.piece_line.proofs.Lines as Line
 use Rattle.cipher_inputs.specs.Blocks.{AgreeOn}
 use Rattle.cipher_inputs.specs.Inputs.{allInputs}
 use Rattle.cipher_inputs.specs.AnyCipher.{aes, aeadBy, begunBy, cipherPieceBy, afterBy, tagInBy}

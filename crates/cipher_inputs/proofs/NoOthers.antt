@@ -21,8 +21,8 @@ use Rattle.suites.specs.Suites.{modeOf, Nt}
 use Rattle.suites.specs.Aead.{firstCount}
 use Rattle.piece_hash.specs.Held.{keptBlock, absorbWhole, leftOver, fedBlocks, blocksOf}
 use Rattle.answers.proofs.Basics.{Two, yes′, no′, two}
-use Rattle.pieces.specs.State.{aadIn, announcedIn, takenIn, nonceIn, keyIn, hashIn}
-use Rattle.pieces.specs.Line.{front, keyField}
+use Rattle.piece_line.specs.State.{aadIn, announcedIn, takenIn, nonceIn, keyIn, hashIn}
+use Rattle.piece_line.specs.Line.{front, keyField}
 use Rattle.pieces.specs.Calls.{past}
 use Rattle.cipher_inputs.specs.Blocks.{zeroBlock, counterBlocks, AgreeOn}
 use Rattle.cipher_inputs.specs.Inputs.{keyInputs, maskInputs, sealingInputs, allInputs}

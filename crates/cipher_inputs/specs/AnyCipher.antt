@@ -17,8 +17,8 @@ use Rattle.suites.specs.declared.sizes.Mode.the-variants.{CtrHmac, Gcm}
 use Rattle.suites.specs.Suites.{modeOf, Nt}
 use Rattle.suites.specs.Aead.{cipherKey, firstCount, ctrTag}
 use Rattle.piece_hash.specs.Held.{keptBlock, absorbWhole, leftOver, fedHash, fedBlocks, blocksOf}
-use Rattle.pieces.specs.State.{atTaken, aadIn, takenIn, nonceIn, keyIn, hashIn}
-use Rattle.pieces.specs.Line.{hashAfter, front, keyField, before, tagFrom}
+use Rattle.piece_line.specs.State.{atTaken, aadIn, takenIn, nonceIn, keyIn, hashIn}
+use Rattle.piece_line.specs.Line.{hashAfter, front, keyField, before, tagFrom}
 use Rattle.cipher_inputs.specs.Blocks.{zeroBlock}
 
 -- AES under the part of the key that it takes.

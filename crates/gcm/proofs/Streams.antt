@@ -5,7 +5,7 @@ use mathlib.Core.Path.{_≡_, refl, ap, ap₂, sym, _∙_}
 use mathlib.Core.List.{List, [], _∷_, _++_, append-nil, append-assoc}
 use Prim.Native.Nat.{ℕ, zero, suc, _+_, _*_, _-_, _/_, _%_, _^_, _≤_, _<_, min}
 use mathlib.Core.Logic.{_⊎_, inl, inr}
-use native.Mathlib.Nat.{add-zero, add-suc}
+use native.Mathlib.Nat.{zero-add, add-zero, add-suc}
 use native.Mathlib.Omega.{arith}
 use borrow.Rule.Slice.PartMut.{putMid}
 use lib.Bits.{bitXor}
@@ -66,14 +66,14 @@ batch-rest key nonce s c k e b =
     (λ m h. let g : c - c % 16 + (k + m) ≡ c + m = omega arith in rw g))
 
 -- The data of a front.
-pub front-rest : (key nonce s : List ℕ) → Blocks key (frontOf nonce) s → drop 32 s ≡ keyStream key nonce 2 14
+pub front-rest : (key nonce s : List ℕ) → Blocks key (frontOf nonce 0) s → drop 32 s ≡ keyStream key nonce 2 14
 unfolding counterBlock
 front-rest key nonce s b =
     sym (take-all 224 (drop 32 s) (rw (length-drop 32 s) (omega (arith, b .sized))))
-    ∙ stream-part key nonce (frontOf nonce) s 2 2 b 14 (omega arith) (λ m h. numbered m)
+    ∙ stream-part key nonce (frontOf nonce 0) s 2 2 b 14 (omega arith) (λ m h. numbered m)
   where
-    numbered : (m : ℕ) → frontOf nonce (2 + m) ≡ nonce ++ bytes 4 (2 + m)
-    numbered m = let e : 2 + m ≡ suc (1 + m) = omega arith in rw e
+    numbered : (m : ℕ) → frontOf nonce 0 (2 + m) ≡ nonce ++ bytes 4 (2 + m)
+    numbered m = let e : 2 + m ≡ suc (1 + m) = omega arith in rw (e, zero-add (suc (1 + m)))
 
 -- XOR takes no more of a key stream than it needs.
 pub xors-enough : (l k r : List ℕ) → length l ≤ length k → xors l (k ++ r) ≡ xors l k
@@ -129,7 +129,7 @@ unfolding ctr xors
 ctr-nil key nonce count = refl
 
 -- The first bytes by a front, and the others behind it.
-pub apply-front : (key nonce l f : List ℕ) (n : ℕ) → Blocks key (frontOf nonce) f → n ≡ min (0 + 224) (length l)
+pub apply-front : (key nonce l f : List ℕ) (n : ℕ) → Blocks key (frontOf nonce 0) f → n ≡ min (0 + 224) (length l)
     → xors (take n l) (drop 32 f) ++ ctr key nonce 16 (drop n l) ≡ ctr key nonce 2 l
 apply-front key nonce l f n b e = by (le-or-lt 224 (length l))
   where
@@ -174,7 +174,7 @@ module _ (l f p : List ℕ) (n : ℕ) (e : n ≡ min (0 + 224) (length l)) (g : 
       let d : length (take (length l - n) (drop n l)) ≡ length l - n = ap length (part-rest n l) ∙ length-drop n l in
       rw d (omega arith)
 
-  pub front-applied : (key nonce w r : List ℕ) → Blocks key (frontOf nonce) f → w ≡ ctr key nonce 16 (take (length l - n) (drop n l))
+  pub front-applied : (key nonce w r : List ℕ) → Blocks key (frontOf nonce 0) f → w ≡ ctr key nonce 16 (take (length l - n) (drop n l))
       → putMid n (length (p ++ r) - n) (p ++ r) w ≡ ctr key nonce 2 l
   front-applied key nonce w r b h =
       let x : p ≡ xors (take n l) (drop 32 f) = g ∙ rw (whole, part-rest 32 f) in

@@ -3,15 +3,16 @@
 -- Assumes nothing.
 use mathlib.Core.Path.{_≡_, ap, sym, _∙_, subst}
 use mathlib.Core.List.{List, [], _++_, append-nil}
-use Prim.Native.Nat.{ℕ, _+_, _*_, _-_}
+use Prim.Native.Nat.{ℕ, _+_, _*_, _-_, _≤_}
 use native.Mathlib.Omega.{arith}
 use borrow.Rule.Slice.PartMut.{putMid}
 use lib.Bits.{bitXor}
-use lib.ListN.{length, drop, take, replicate, length-append, length-drop, drop-of-length-le}
+use lib.ListN.{length, drop, take, replicate, length-append, length-take, length-drop, drop-of-length-le}
 use Rattle.octets.specs.Octets.{number, bytes, xors}
 use lib.Seq.{take-at, drop-at, take-all}
 use Rattle.octets.proofs.Laws.{number-take}
 use Rattle.aes.specs.Aes.{encrypt}
+use Rattle.aes.proofs.Laws.{encrypt-length}
 use Rattle.gcm.specs.Counter.{counterBlock, ctr}
 use Rattle.ghash.specs.Ghash.{product, absorb, pair}
 use Rattle.ghash.specs.inner.HashKey.{HashKey}
@@ -19,11 +20,14 @@ use Rattle.gcm.specs.Gcm.{hashKey, hash, gcmTag, gcmCiphertext, gcmEncry
 use Rattle.gcm.specs.inner.Front.{Front}
 use Rattle.gcm.proofs.Laws.{tag-length}
 
--- The first block of a front is that of the hash key.
-pub hash-key-made : (key nonce f t : List ℕ) (v : ℕ) → Front key nonce f → v ≡ number 16 f → HashKey v t → HashKey (hashKey key) t
+-- The encrypted block of zeros is that of the hash key.
+pub hash-key-made : (key f t : List ℕ) (v : ℕ) → take 16 f ≡ encrypt key (replicate 16 0) → v ≡ number 16 f → HashKey v t → HashKey (hashKey key) t
 unfolding hashKey
-hash-key-made key nonce f t v b e k =
-    subst (λ (x : ℕ). HashKey x t) (e ∙ sym (number-take 16 16 f (omega arith)) ∙ ap (number 16) (b .each 0 (omega arith))) k
+hash-key-made key f t v b e k =
+    subst (λ (x : ℕ). HashKey x t) (e ∙ sym (number-take 16 16 f (omega arith)) ∙ ap (number 16) b) k
+
+pub first-sized : (key f : List ℕ) → take 16 f ≡ encrypt key (replicate 16 0) → 16 ≤ length f
+first-sized key f b = omega (arith, sym (length-take 16 f) ∙ ap length b ∙ encrypt-length key (replicate 16 0))
 
 pub hashed : (h : ℕ) (a b c : List ℕ) (u y s r : ℕ) → u ≡ absorb h 0 (a ++ b) → y ≡ absorb h u (c ++ [])
     → s ≡ bitXor y (pair ((length a + length b) * 8) (length c * 8)) → r ≡ product s h → r ≡ hash h (a ++ b) c

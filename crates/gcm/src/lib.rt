@@ -8,7 +8,8 @@ use aes_keys::Context;
 ghost use mathlib.Core.Path.{_≡_};
 ghost use mathlib.Core.List.{_++_};
 ghost use Prim.Native.Nat.{_+_, _*_, _≤_};
-ghost use lib.ListN.{length};
+ghost use lib.ListN.{length, take, replicate};
+ghost use Rattle.aes.specs.Aes.{blockSize, encrypt};
 ghost use Rattle.aes_keys.specs.inner.Keys.{Ready, keyOf};
 ghost use Rattle.gcm.specs.Counter.{nonceSize, ctr};
 ghost use Rattle.ghash.specs.inner.HashKey.{valueOf, HashKey, hashKeyOf};
@@ -40,15 +41,23 @@ pub fn front(ctx: &Context, nonce: &[u8]) -> Front
     requires { ⌜ (Ready (now ctx)) × (length (now nonce) ≡ nonceSize) ⌝ }
     ensures { λ r. ⌜ Front (keyOf (now (ctx .entry))) (now (nonce .entry)) r ⌝ }
 {
-    aes_batch::front(ctx, nonce)
+    aes_batch::front(ctx, nonce, 0)
 }
 
-// The context of the hash key of a key, from a front of it.
+// The context of the hash key of a key, from bytes that begin with the encrypted block of zeros.
+pub fn hash_key_of(ctx: &Context, f: &[u8]) -> ghash::HashKey
+    requires { ⌜ take blockSize (now f) ≡ encrypt (keyOf (now ctx)) (replicate blockSize 0) ⌝ }
+    ensures { λ r. ⌜ HashKey (hashKey (keyOf (now (ctx .entry)))) r ⌝ }
+{
+    ghash::expand(ghash::load(f))
+}
+
+// The same from a front.
 pub fn hash_key(ctx: &Context, nonce: &[u8], f: &[u8]) -> ghash::HashKey
     requires { ⌜ Front (keyOf (now ctx)) (now nonce) (now f) ⌝ }
     ensures { λ r. ⌜ HashKey (hashKey (keyOf (now (ctx .entry)))) r ⌝ }
 {
-    ghash::expand(ghash::load(f))
+    hash_key_of(ctx, f)
 }
 
 // GHASH over the associated data header and metadata, the ciphertext, and the block of their lengths.

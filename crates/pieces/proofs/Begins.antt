@@ -1,34 +1,33 @@
 -- SPDX-License-Identifier: MIT
 -- What the code of a beginning comes to, over plain variables. Assumes nothing.
-use mathlib.Core.Path.{_≡_, refl, sym, _∙_, ap, ap₂}
+use mathlib.Core.Path.{_≡_, sym, _∙_, ap, ap₂}
 use mathlib.Core.List.{List, [], _∷_, _++_, append-nil, append-assoc}
-use Prim.Native.Nat.{ℕ, zero, suc, _+_, _*_, _/_, _%_, _-_, _^_, _<_, _≤_}
-use native.Mathlib.Nat.{zero-add, mod-eq-of-lt, div-one}
+use Prim.Native.Nat.{ℕ, _+_, _%_, _-_, _<_, _≤_}
+use native.Mathlib.Nat.{mod-eq-of-lt, div-one}
 use native.Mathlib.Omega.{arith}
 use borrow.Rule.Slice.PartMut.{putMid}
-use lib.ListN.{length, take, drop, replicate, length-append, length-take, length-drop, length-replicate, drop-of-length-le}
+use lib.ListN.{length, take, drop, replicate, length-append, length-drop, length-replicate}
 use lib.Seq.{length-take-le, drop-drop}
 use Rattle.octets.specs.Octets.{bytes, xors, pasted}
-use Rattle.octets.proofs.Laws.{bytes-length, bytes-zero, bytes-suc, pasted-append, pasted-front, pasted-length}
+use Rattle.octets.proofs.Laws.{bytes-length, bytes-zero, bytes-suc, pasted-append, pasted-length}
 use Rattle.sha2.specs.Sizes.{sha256}
 use Rattle.sha2.specs.inner.Running.{State, fresh, fed}
 use Rattle.sha2.proofs.Laws.{drop-zeros}
 use Rattle.hmac.specs.Hmac.{extended, masked, ipad}
-use Rattle.ghash.specs.Ghash.{absorb, absorbBlocks}
+use Rattle.ghash.specs.Ghash.{absorb}
 use Rattle.ghash.specs.inner.HashKey.{HashKey, hashKeyOf}
 use Rattle.ghash.proofs.Laws.{hash-key-of}
 use Rattle.gcm.specs.Gcm.{hashKey}
 use Rattle.aes_keys.specs.inner.Keys.{Context, keyOf}
 use Rattle.suites.specs.declared.sizes.Suite.{Suite}
-use Rattle.suites.specs.declared.sizes.Mode.{Mode}
 use Rattle.suites.specs.declared.sizes.Mode.the-variants.{CtrHmac, Gcm}
 use Rattle.suites.specs.Suites.{numberOf, Nk, Nt, modeOf}
-use Rattle.suites.specs.Aead.{cipherKey, authKey}
+use Rattle.suites.specs.Aead.{cipherKey}
 use Rattle.suites.proofs.Laws.{number-byte, whole-key}
-use Rattle.piece_hash.specs.Held.{kept, keptBlock, absorbWhole, leftOver}
+use Rattle.piece_hash.specs.Held.{kept, keptBlock, absorbWhole}
 use Rattle.piece_hash.proofs.Blocks.{whole-short, left-short}
 use Rattle.piece_hash.proofs.Joins.{fed-join, fresh-room}
-use Rattle.pieces.specs.Line.{tagFront, front, keyField, hashAfter, stateAfter, begun}
+use Rattle.piece_line.specs.Line.{tagFront, front, keyField, hashAfter, stateAfter, begun}
 
 -- ---- the running hash
 

@@ -1,18 +1,18 @@
 -- SPDX-License-Identifier: MIT
 -- The calls of a line from its beginning on: what they answer and leave, and that nothing changes where they refuse.
 -- Assumes nothing.
-use mathlib.Core.Path.{_≡_, refl, sym, _∙_, ap, ap₂}
-use mathlib.Core.Bool.{Bool, true, false, not}
-use mathlib.Core.List.{List, [], _∷_, _++_}
-use Prim.Native.Nat.{ℕ, zero, suc, _+_, _-_, _<_, _≤_}
+use mathlib.Core.Path.{_≡_, refl, sym, _∙_, ap}
+use mathlib.Core.Bool.{true, false, not}
+use mathlib.Core.List.{List, [], _++_}
+use Prim.Native.Nat.{ℕ, zero, suc, _+_, _-_, _≤_}
 use native.Mathlib.Omega.{arith}
-use borrow.Author.Tests.{lt-ltb, le-ltb, eq-eqb, ltb-true, ltb-false, eqb-true, eqb-false, not-false}
+use borrow.Author.Tests.{le-ltb, eq-eqb, ltb-true, ltb-false, eqb-true, eqb-false, not-false}
 use lib.Dec.{ltb, eqb}
 use lib.ListN.{length, drop}
 use lib.Seq.{drop-at}
 use Rattle.octets.specs.Octets.{pasted, same}
 use Rattle.octets.proofs.Laws.{same-refl, same-eq}
-use Rattle.answers.specs.Answers.{Cause, first}
+use Rattle.answers.specs.Answers.{first}
 use Rattle.answers.proofs.Basics.{Two, yes′, no′, two}
 use Rattle.suites.specs.declared.sizes.Suite.{Suite}
 use Rattle.suites.specs.declared.sizes.Found.{Found}
@@ -21,12 +21,12 @@ use Rattle.suites.specs.Suites.{Nt}
 use Rattle.suites.specs.Aead as Aead
 use Rattle.suites.specs.Aead.{ciphertext}
 use Rattle.suites.proofs.Laws.{ciphertext-length, tag-length}
-use Rattle.pieces.specs.State.{sealing, checking, announcedIn, takenIn, lineOf}
-use Rattle.pieces.specs.Line.{stateAfter, after, cipherPiece, tagIn}
-use Rattle.pieces.specs.Calls.{Result, refusal, concluded, past, early, wanting, sealPieceIn, sealPiece, sealEndIn, sealEnd, checkPieceIn, checkPiece, checkEndIn, checkEnd}
+use Rattle.piece_line.specs.State.{sealing, checking, announcedIn, takenIn, lineOf}
+use Rattle.piece_line.specs.Line.{stateAfter, after, cipherPiece, tagIn}
+use Rattle.pieces.specs.Calls.{Result, refusal, concluded, past, early, wanting, sealPieceIn, sealPiece, sealEndIn, sealEnd, checkPieceIn, checkPiece, checkEnd}
 use Rattle.pieces.proofs.CallSteps as Steps
-use Rattle.pieces.proofs.Steps.{cipher-length}
-use Rattle.pieces.proofs.Lines.{Given, line-is, taken-on, tag-is, cipher-on, taken-is, announced-is}
+use Rattle.piece_line.proofs.Steps.{cipher-length}
+use Rattle.piece_line.proofs.Lines.{Given, line-is, taken-on, tag-is, cipher-on, taken-is, announced-is}
 
 -- ---- refusals, over every state
 

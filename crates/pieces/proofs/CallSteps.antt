@@ -1,23 +1,50 @@
 -- SPDX-License-Identifier: MIT
 -- The steps of the calls on a running state, over plain variables. Assumes nothing.
-use mathlib.Core.Path.{_≡_, refl, sym, _∙_, ap}
+use mathlib.Core.Path.{_≡_, refl, sym, _∙_, ap, ap₂}
 use mathlib.Core.Bool.{Bool, true, false, not}
-use mathlib.Core.List.{List, [], _∷_, _++_}
-use Prim.Native.Nat.{ℕ, zero, suc, _+_, _<_, _≤_}
+use mathlib.Core.List.{List, []}
+use Prim.Native.Nat.{ℕ, _+_, _-_, _<_, _≤_}
+use native.Mathlib.Nat.{zero-add}
 use native.Mathlib.Omega.{arith}
-use borrow.Author.Tests.{lt-ltb, le-ltb, eq-eqb, ne-eqb, ltb-false, eqb-true, not-true, not-false}
-use lib.Dec.{ltb, eqb}
-use lib.ListN.{length}
+use borrow.Author.Tests.{lt-ltb, le-ltb, eq-eqb, ne-eqb, ltb-true, ltb-false, not-true, not-false}
+use borrow.Rule.Slice.PartMut.{putMid}
+use lib.Dec.{ltb}
+use lib.ListN.{length, take}
 use Rattle.octets.specs.Octets.{pasted, same}
 use Rattle.answers.specs.Answers.{first}
 use Rattle.suites.specs.declared.sizes.Suite.{Suite}
 use Rattle.suites.specs.declared.sizes.Found.{Found}
 use Rattle.suites.specs.declared.sizes.Found.the-variants.{Known, Unknown}
 use Rattle.suites.specs.Suites.{Nt}
-use Rattle.pieces.specs.State.{sealing, checking, announcedIn, takenIn, lineOf}
-use Rattle.pieces.specs.Line.{after, cipherPiece, tagIn}
+use Rattle.suites.proofs.Laws.{Nt-most}
+use Rattle.piece_line.specs.State.{sealing, checking, announcedIn, takenIn, lineOf}
+use Rattle.piece_line.specs.Line.{after, cipherPiece, tagIn}
 use Rattle.pieces.specs.Calls.{Result, refusal, concluded, past, early, wanting, sealPieceIn, sealPiece, sealEndIn, sealEnd, checkPieceIn, checkPiece, checkEndIn, checkEnd}
-use Rattle.pieces.proofs.Steps.{Possible}
+use Rattle.piece_line.proofs.Steps.{Possible}
+
+-- ---- tests
+
+pub past-is : (s : List ℕ) (n a t : ℕ) (r : Bool) → takenIn s ≤ announcedIn s → a ≡ announcedIn s → t ≡ takenIn s → r ≡ ltb (a - t) n → r ≡ past s n
+past-is s n a t r h e f g = g ∙ ap₂ (λ (i j : ℕ). ltb (i - j) n) e f ∙ by (ltb (announcedIn s - takenIn s) n) refl
+  where
+    by : (b : Bool) → ltb (announcedIn s - takenIn s) n ≡ b → ltb (announcedIn s - takenIn s) n ≡ ltb (announcedIn s) (takenIn s + n)
+    by true p = p ∙ sym (lt-ltb (announcedIn s) (takenIn s + n) (omega (arith, h, ltb-true (announcedIn s - takenIn s) n p)))
+    by false p = p ∙ sym (le-ltb (announcedIn s) (takenIn s + n) (omega (arith, h, ltb-false (announcedIn s - takenIn s) n p)))
+
+-- What is written to the front of a room, by way of its first n bytes.
+pub lent-front : (room p x : List ℕ) (n : ℕ) → length x ≡ n → n ≤ length room → p ≡ x → putMid 0 (n - 0) room p ≡ pasted room 0 x
+unfolding pasted
+lent-front room p x n l h e =
+    let d : n - 0 ≡ n = omega arith in
+    rw (e, d, zero-add, l)
+
+pub first-part : (t g : List ℕ) (n m : ℕ) → n ≡ m → take m t ≡ g → take (n - 0) t ≡ g
+first-part t g n m e f = let d : n - 0 ≡ m = omega arith in rw d f
+
+pub tag-fits : (f : Found) (suite : Suite) (n : ℕ) → f ≡ Known suite → n ≡ Nt suite → n ≤ 16
+tag-fits f suite n k e = omega (arith, Nt-most suite)
+
+-- ---- the calls
 
 -- what a call answers, and what it leaves in state and room
 abbrev pub Leaves : Result → ℕ → ℕ → List ℕ → List ℕ → Type 0

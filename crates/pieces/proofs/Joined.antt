@@ -2,16 +2,16 @@
 -- Two pieces are as one, over every possible state, whatever its bytes. Assumes nothing.
 use mathlib.Core.Path.{_≡_, refl, sym, _∙_, ap, ap₂}
 use mathlib.Core.List.{List, [], _∷_, _++_, append-assoc}
-use Prim.Native.Nat.{ℕ, zero, suc, _+_, _*_, _/_, _%_, _-_, _^_, _<_, _≤_}
+use Prim.Native.Nat.{ℕ, zero, suc, _+_, _*_, _%_, _-_, _^_, _<_, _≤_}
 use native.Mathlib.Nat.{mod-eq-of-lt}
 use native.Mathlib.Omega.{arith}
-use lib.ListN.{length, getD, take, drop, length-append, length-take, length-drop, take-append-drop}
-use lib.Seq.{take-at, drop-at, take-take, take-append-le, drop-append-le, drop-drop, length-take-le}
+use lib.ListN.{length, take, drop, length-append, length-drop, take-append-drop}
+use lib.Seq.{take-at, drop-at, take-append-le, drop-append-le, drop-drop, length-take-le}
 use Rattle.octets.specs.Octets.{Octets, number, bytes, pasted}
-use Rattle.octets.proofs.Laws.{number-append, number-bytes, number-ext, number-lt, number-take, bytes-length, octets-drop, octets-take}
+use Rattle.octets.proofs.Laws.{number-append, number-bytes, number-lt, number-take, bytes-length, octets-drop, octets-take}
 use Rattle.sha2.specs.Sha2.{words}
 use Rattle.sha2.specs.Sizes.{sha256}
-use Rattle.sha2.specs.inner.Running.{State, fed}
+use Rattle.sha2.specs.inner.Running.{fed}
 use Rattle.gcm.specs.Gcm.{hashKey}
 use Rattle.suites.specs.declared.sizes.Suite.{Suite}
 use Rattle.suites.specs.declared.sizes.Mode.{Mode}
@@ -21,12 +21,12 @@ use Rattle.suites.specs.Aead.{cipherKey, firstCount}
 use Rattle.suites.proofs.Laws.{Nk-most}
 use Rattle.piece_stream.specs.CounterFrom.{ctrFrom}
 use Rattle.piece_stream.proofs.Laws as Stream
-use Rattle.piece_hash.specs.Held.{roomIn, held, kept, fedHash, keptBlock, absorbWhole, leftOver, fedBlocks}
+use Rattle.piece_hash.specs.Held.{roomIn, held, fedHash, keptBlock, absorbWhole, leftOver, fedBlocks}
 use Rattle.piece_hash.proofs.Joins.{Words, fed-again, fed-room, run-length, kept-length, block-length, fed-blocks-again}
-use Rattle.pieces.specs.State.{aadIn, takenIn, nonceIn, keyIn, hashIn}
-use Rattle.pieces.specs.Line.{before, hashMore, after, cipherPiece}
-use Rattle.pieces.proofs.Lines.{hash-key-lt}
-use Rattle.pieces.proofs.Steps.{cipher-length}
+use Rattle.piece_line.specs.State.{aadIn, takenIn, nonceIn, keyIn, hashIn}
+use Rattle.piece_line.specs.Line.{before, hashMore, after, cipherPiece}
+use Rattle.piece_line.proofs.Lines.{hash-key-lt}
+use Rattle.piece_line.proofs.Steps.{cipher-length}
 
 -- ---- the running hash, of any bytes
 

@@ -14,8 +14,8 @@ use Rattle.suites.specs.declared.sizes.Suite.{Suite}
 use Rattle.suites.specs.declared.sizes.Found.{Found}
 use Rattle.suites.specs.declared.sizes.Found.the-variants.{Known, Unknown}
 use Rattle.suites.specs.Suites.{Nt}
-use Rattle.pieces.specs.State.{sealing, checking, announcedIn, takenIn, lineOf}
-use Rattle.pieces.specs.Line.{after, cipherPiece, tagIn}
+use Rattle.piece_line.specs.State.{sealing, checking, announcedIn, takenIn, lineOf}
+use Rattle.piece_line.specs.Line.{after, cipherPiece, tagIn}
 
 -- What a call on a running state answers, and what the lent bytes hold afterwards. A call that has no room is given the empty one.
 pub record Result : Type 0 where

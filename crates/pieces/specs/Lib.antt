@@ -1,4 +1,2 @@
 -- SPDX-License-Identifier: MIT
-pub mod State
-pub mod Line
 pub mod Calls

@@ -1,16 +1,16 @@
 // SPDX-License-Identifier: MIT
 // The state that a line begins with.
-use crate::line::hash_key;
-use crate::state::AAD;
-use crate::state::ANNOUNCED;
-use crate::state::HASH;
-use crate::state::KEY;
-use crate::state::NONCE;
-use crate::state::STATE_SIZE;
-use crate::state::SUITE;
-use crate::state::TAKEN;
 use octets::copy_at;
 use octets::write_be_at;
+use piece_line::hash_key;
+use piece_line::state::AAD;
+use piece_line::state::ANNOUNCED;
+use piece_line::state::HASH;
+use piece_line::state::KEY;
+use piece_line::state::NONCE;
+use piece_line::state::STATE_SIZE;
+use piece_line::state::SUITE;
+use piece_line::state::TAKEN;
 use sha256::Sha256;
 use suites::Suite;
 use suites::sizes::Mode;
@@ -26,8 +26,8 @@ ghost use Rattle.suites.specs.inner.Sizes.{maxNt};
 ghost use Rattle.suites.specs.declared.sizes.Mode.the-variants.{CtrHmac, Gcm};
 ghost use Rattle.suites.specs.declared.sizes.Suite.the-variants.{Ctr80};
 ghost use Rattle.piece_hash.specs.Held.{heldSize};
-ghost use Rattle.pieces.specs.State.{stateSize, atKey, keySpace};
-ghost use Rattle.pieces.specs.Line.{front, keyField, hashAfter, begun};
+ghost use Rattle.piece_line.specs.State.{stateSize, atKey, keySpace};
+ghost use Rattle.piece_line.specs.Line.{front, keyField, hashAfter, begun};
 
 // Where the key of HMAC starts in a key.
 const NKA: usize = 16;

@@ -1,9 +1,7 @@
 // SPDX-License-Identifier: MIT
-// A frame in pieces, without a store: the running state, and the calls on it. The causes are tried in the order 16, 12 where
-// sealing, and 16, 11, 13 where checking.
+// A frame in pieces, without a store: the state that a line begins with, and the calls on it. The causes are tried in the order
+// 16, 12 where sealing, and 16, 11, 13 where checking.
 mod beginning;
-mod line;
-mod state;
 
 use answers::Answer;
 use answers::DONE;
@@ -13,16 +11,15 @@ use answers::STATE_MISMATCH;
 use answers::TAG_DIFFERS;
 use answers::refused;
 pub use beginning::begin;
-use line::cipher_piece;
-use line::context_of;
-use line::tag_of;
-use line::take_in;
-pub use state::CHECKING;
-pub use state::SEALING;
-pub use state::STATE_SIZE;
-use state::announced_of;
-use state::line_of;
-use state::taken_of;
+use piece_line::seal_in;
+pub use piece_line::state::CHECKING;
+pub use piece_line::state::SEALING;
+pub use piece_line::state::STATE_SIZE;
+use piece_line::state::announced_of;
+use piece_line::state::line_of;
+use piece_line::state::taken_of;
+use piece_line::tag_of;
+use piece_line::take_in;
 use suites::Found;
 use suites::Suite;
 ghost use mathlib.Core.Path.{_≡_};
@@ -30,8 +27,8 @@ ghost use Prim.Native.Nat.{_+_, _≤_};
 ghost use lib.ListN.{length};
 ghost use Rattle.octets.specs.Octets.{pasted};
 ghost use Rattle.answers.specs.Limits.{maxPlaintext};
-ghost use Rattle.pieces.specs.State.{stateSize, announcedIn, takenIn};
-ghost use Rattle.pieces.specs.Line.{after, cipherPiece};
+ghost use Rattle.piece_line.specs.State.{stateSize, announcedIn, takenIn};
+ghost use Rattle.piece_line.specs.Line.{after, cipherPiece};
 ghost use Rattle.pieces.specs.Calls.{past, early, sealPiece, sealEnd, checkPiece, checkEnd};
 
 // Whether a piece of n bytes goes past what was announced.
@@ -57,9 +54,7 @@ fn encrypt_piece(suite: Suite, state: &mut [u8], piece: &[u8], room: &mut [u8])
     ensures { λ _. ⌜ now (room .exit) ≡ pasted (now (room .entry)) 0 (cipherPiece suite (now (state .entry)) (now (piece .entry))) ⌝ }
 {
     let n = piece.len();
-    let ctx = context_of(state, suite);
-    cipher_piece(suite, &ctx, state, piece, &mut room[0..n]);
-    take_in(suite, &ctx, state, &room[0..n]);
+    seal_in(suite, state, piece, &mut room[0..n]);
 }
 
 // Seals a piece: its ciphertext stands at the front of the room.
@@ -118,8 +113,7 @@ pub fn check_piece(state: &mut [u8], piece: &[u8]) -> u32
     if is_past(state, piece.len()) {
         return STATE_MISMATCH;
     }
-    let ctx = context_of(state, suite);
-    take_in(suite, &ctx, state, piece);
+    take_in(suite, state, piece);
     DONE
 }
 

@@ -16,8 +16,8 @@ use Rattle.suites.specs.declared.sizes.Found.the-variants.{Known}
 use Rattle.suites.specs.Suites.{modeOf, Nk, suiteOf as named}
 use Rattle.suites.specs.Derivation.{nonce}
 use Rattle.suites.specs.Aead as Aead
-use Rattle.pieces.specs.State.{sealing}
-use Rattle.pieces.specs.Line.{begun}
+use Rattle.piece_line.specs.State.{sealing}
+use Rattle.piece_line.specs.Line.{begun}
 use Rattle.key_record.specs.Suites.{withSuite}
 use Rattle.key_record.specs.Record.{SendingKey, KeyRecord, sending, counterOf}
 use Rattle.key_record.proofs.Codec.{Fit}

@@ -5,7 +5,7 @@ use Prim.Native.Nat.{ℕ}
 use Rattle.header.specs.Header.{header}
 use Rattle.suites.specs.Suites.{suiteOf as named}
 use Rattle.suites.specs.Derivation.{nonce}
-use Rattle.pieces.specs.State.{sealing}
+use Rattle.piece_line.specs.State.{sealing}
 use Rattle.key_record.specs.Suites.{withSuite}
 use Rattle.key_record.specs.Record.{KeyRecord, suiteOf, saltOf, keyOf, counterOf}
 use Rattle.cipher_inputs.specs.AnyCipher.{aes, aeadBy, begunBy}

@@ -29,10 +29,10 @@ use Rattle.suites.specs.Derivation.{nonce}
 use Rattle.suites.specs.Aead as Aead
 use Rattle.suites.specs.Aead.{ciphertext}
 use Rattle.suites.proofs.Laws.{nonce-length, ciphertext-length, ciphertext-twice, ciphertext-octets, tag-length}
-use Rattle.pieces.specs.State.{checking, announcedIn, takenIn, lineOf}
-use Rattle.pieces.specs.Line.{stateAfter, begun, tagIn}
+use Rattle.piece_line.specs.State.{checking, announcedIn, takenIn, lineOf}
+use Rattle.piece_line.specs.Line.{stateAfter, begun, tagIn}
 use Rattle.pieces.specs.Calls.{Result, concluded, past, early, checkPieceIn, checkPiece, checkEndIn, checkEnd}
-use Rattle.pieces.proofs.Lines as Line
+use Rattle.piece_line.proofs.Lines as Line
 use Rattle.key_record.specs.Record.{ReceivingKey, KeyRecord, empty, receiving, holds}
 use Rattle.key_record.specs.Suites.{withSuite, tagSize}
 use Rattle.key_record.proofs.Codec.{Fit}

@@ -20,10 +20,10 @@ use Rattle.suites.specs.Derivation.{nonce}
 use Rattle.suites.specs.Aead as Aead
 use Rattle.suites.specs.Aead.{ciphertext}
 use Rattle.suites.proofs.Laws.{nonce-length, ciphertext-length}
-use Rattle.pieces.specs.State.{sealing, announcedIn, takenIn}
-use Rattle.pieces.specs.Line.{stateAfter, begun}
+use Rattle.piece_line.specs.State.{sealing, announcedIn, takenIn}
+use Rattle.piece_line.specs.Line.{stateAfter, begun}
 use Rattle.pieces.specs.Calls.{Result, concluded, past, early, wanting, sealPiece, sealEnd}
-use Rattle.pieces.proofs.Lines as Line
+use Rattle.piece_line.proofs.Lines as Line
 use Rattle.key_record.specs.Record.{SendingKey, KeyRecord, sending, suiteOf as heldSuite}
 use Rattle.key_record.specs.Suites.{withSuite, tagSize}
 use Rattle.key_record.proofs.Codec.{Fit}

@@ -14,8 +14,8 @@ use Rattle.header.specs.declared.Reading.the-variants.{Header}
 use Rattle.header.proofs.Laws.{field-bits, read-header, header-length}
 use Rattle.answers.specs.Limits.{maxPlaintext, maxMetadata}
 use Rattle.suites.specs.Suites.{suiteOf}
-use Rattle.pieces.specs.State.{sealing, maxAad}
-use Rattle.pieces.specs.Line.{stateAfter}
+use Rattle.piece_line.specs.State.{sealing, maxAad}
+use Rattle.piece_line.specs.Line.{stateAfter}
 use Rattle.pieces.specs.Calls.{Result, sealPiece, sealEnd}
 use Rattle.key_record.specs.Record.{ceiling}
 use Rattle.key_record.specs.Suites.{withSuite, isSuite}

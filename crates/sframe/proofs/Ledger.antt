@@ -11,8 +11,8 @@ use borrow.Author.Tests.{eq-eqb, ne-eqb, eqb-true, eqb-false}
 use Rattle.octets.specs.Octets.{Octets, pick, pasted}
 use Rattle.octets.proofs.Laws.{pasted-front}
 use Rattle.suites.specs.Suites.{suiteOf}
-use Rattle.pieces.specs.State.{sealing}
-use Rattle.pieces.specs.Line.{stateAfter, begun}
+use Rattle.piece_line.specs.State.{sealing}
+use Rattle.piece_line.specs.Line.{stateAfter, begun}
 use Rattle.pieces.specs.Calls.{sealPiece, sealEnd}
 use Rattle.key_record.proofs.Codec.{Fit}
 use Rattle.begin_state.specs.Begin.{firstState}

@@ -19,10 +19,10 @@ use Rattle.suites.specs.Suites.{suiteOf, Nt}
 use Rattle.suites.specs.Aead as Aead
 use Rattle.suites.specs.Aead.{ciphertext}
 use Rattle.suites.proofs.Laws.{ciphertext-length, tag-length}
-use Rattle.pieces.specs.State.{sealing, announcedIn, takenIn, fits, lineOf}
-use Rattle.pieces.specs.Line.{stateAfter, after, cipherPiece, tagIn}
+use Rattle.piece_line.specs.State.{sealing, announcedIn, takenIn, fits, lineOf}
+use Rattle.piece_line.specs.Line.{stateAfter, after, cipherPiece, tagIn}
 use Rattle.pieces.specs.Calls.{Result, concluded, past, early, wanting, sealPieceIn, sealPiece, sealEndIn, sealEnd}
-use Rattle.pieces.proofs.Lines as Line
+use Rattle.piece_line.proofs.Lines as Line
 use Rattle.key_record.specs.Suites.{withSuite, isSuite}
 use Rattle.key_record.proofs.Suites.{named, key-named}
 use Rattle.store.specs.Sframe.{encryptBy, sframe}

@@ -8,7 +8,7 @@ use Rattle.octets.specs.Octets.{pasted}
 use Rattle.answers.specs.Answers.{stateMismatch, _if_, first}
 use Rattle.suites.specs.declared.sizes.Found.{Found}
 use Rattle.suites.specs.declared.sizes.Found.the-variants.{Known, Unknown}
-use Rattle.pieces.specs.State.{sealing, checking, lineOf}
+use Rattle.piece_line.specs.State.{sealing, checking, lineOf}
 use Rattle.pieces.specs.Calls.{Result, refusal, concluded, sealPieceIn, sealPiece, sealEndIn, sealEnd, checkPieceIn, checkPiece}
 
 concluded-refused : (n : ℕ) (s room : List ℕ) (r : Result) → r .number ≡ 0 → (concluded n s room r .number ≡ 0 → ⊥) → concluded n s room r ≡ refusal (concluded n s room r .number) s room

@@ -19,8 +19,9 @@ returns c =
     let at = to-encrypt c in
     let cleared = to-clear-first at in
     let made = cleared .before .before .before in
-    fronted _ _ _ _ _ _ (made .before .before .before .pre .1) (made .counters .ensures) (cleared .clear-first .ensures) (at .encrypt .ensures)
-    (c .before .unslice .ensures)
+    let start = made .before .before .before in
+    fronted _ _ _ _ _ _ _ (start .pre .1) (start .fits .count .fits) (start .pre .2) (made .counters .ensures) (cleared .clear-first .ensures)
+    (at .encrypt .ensures) (c .before .unslice .ensures)
 
 pub front-spec : {M : Type 1} → statement M
 front-spec =

@@ -92,6 +92,6 @@ pub record Blocks (key : List ℕ) (f : ℕ → List ℕ) (l : List ℕ) : Type 
 abbrev pub countersOf : (nonce : List ℕ) (count : ℕ) → ℕ → List ℕ
 countersOf nonce count m = nonce ++ bytes 4 (count + m)
 
-abbrev pub frontOf : (nonce : List ℕ) → ℕ → List ℕ
-frontOf nonce zero = replicate 16 0
-frontOf nonce (suc m) = nonce ++ bytes 4 (suc m)
+abbrev pub frontOf : (nonce : List ℕ) (count : ℕ) → ℕ → List ℕ
+frontOf nonce count zero = replicate 16 0
+frontOf nonce count (suc m) = nonce ++ bytes 4 (count + suc m)

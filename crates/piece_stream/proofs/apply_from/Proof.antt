@@ -7,7 +7,7 @@ use lib.ListN.{length, take, drop}
 use Rattle.aes_keys.specs.inner.Keys.{keyOf}
 use Rattle.gcm.proofs.Streams.{part-length}
 use Rattle.piece_stream.specs.CounterFrom.{ctrFrom}
-use Rattle.piece_stream.proofs.Laws.{batch-part, from-none, step, done}
+use Rattle.piece_stream.proofs.Laws.{counters-part, from-none, step, done}
 use borrow.Author.Needs.{needs}
 use Rattle.piece_stream.proofs.apply_from.Statement.{statement}
 use Rattle.piece_stream.proofs.apply_from.Tie as tie
@@ -116,7 +116,7 @@ loop-again c =
     let part = take (e - i) (drop i input) in
     let n : length part ≡ e - i = part-length input i e (omega arith) (omega arith) in
     let q : p ≡ 16 * start .args .count + (start .args .at + i) = omega arith in
-    let r = c .before .before .xor-part .ensures ∙ batch-part key nonce _ part (start .args .count) (start .args .at + i) p q (made .stream .ensures) (omega arith) in
+    let r = c .before .before .xor-part .ensures ∙ counters-part key nonce _ part (start .args .count) (start .args .at + i) p q (made .stream .ensures) (omega arith) in
     (omega arith, search needs, step key nonce input (start .args .out .now) _ _ (start .args .count) (start .args .at) i e (omega arith) (omega arith) (at .loop .inv .2) r)
 
 same-length : tie.Need-same-length Inv-loop μ-loop

@@ -1,18 +1,11 @@
 -- SPDX-License-Identifier: MIT
-use Rattle.pieces.proofs.CallSteps.{within, piece-unknown, piece-past, piece-short, piece-taken, end-unknown, end-early, end-short, end-written, check-unknown, check-past, check-done, tag-unknown, tag-early, tag-length, tag-differs, tag-same}
-use Rattle.pieces.proofs.Steps.{known-possible}
-use Rattle.pieces.specs.State.{sealing, checking, takenIn, announcedIn, aadIn, keyIn, nonceIn, hashIn}
-use native.Mathlib.Omega.{arith}
-use mathlib.Core.Path.{_≡_, refl, sym, _∙_, ap}
+use Rattle.pieces.proofs.CallSteps.{within, check-unknown, check-past, check-done}
+use Rattle.piece_line.proofs.Steps.{known-possible}
+use Rattle.piece_line.specs.State.{checking}
+use mathlib.Core.Path.{_∙_}
 use borrow.Author.Needs.{needs}
 use Rattle.pieces.proofs.check_piece.Statement.{statement}
 use Rattle.pieces.proofs.check_piece.Tie as tie
-use Rattle.pieces.proofs.check_piece.Reads as reads
-use Rattle.pieces.proofs.check_piece.Lts as lts
-use Rattle.pieces.proofs.is_past.Reads as is-past-reads
-use Rattle.pieces.proofs.line.context_of.Reads as context-of-reads
-use Rattle.pieces.proofs.line.take_in.Reads as take-in-reads
-use Rattle.pieces.proofs.state.line_of.Reads as line-of-reads
 
 line-of-requires : tie.Need-line-of-requires
 line-of-requires c κs = search needs
@@ -43,17 +36,14 @@ to-suite c = c .before .before .before .before
 abbrev to-start-from-suite : tie.After-suite → tie.Start
 to-start-from-suite c = c .before .before .before .before .before .before
 
-abbrev to-suite-from-context-of-arg : tie.After-context-of-arg → tie.After-suite
-to-suite-from-context-of-arg c = c .before .before .before .before .before
-
 abbrev to-else1 : tie.After-take-in-arg → tie.Else1
-to-else1 c = c .before .before .before .before
+to-else1 c = c .before
 
 abbrev to-suite-from-else1 : tie.Else1 → tie.After-suite
 to-suite-from-else1 c = c .before .before .before .before
 
 abbrev to-else1-from-slice-known2 : tie.After-slice-known2 → tie.Else1
-to-else1-from-slice-known2 c = c .before .before .before .before .before .before .before
+to-else1-from-slice-known2 c = c .before .before .before .before
 
 -- ----
 
@@ -80,18 +70,12 @@ returns-2 c =
     let q = check-past (s .state .now) (s .piece .now) _ (at-suite .before .before .line-of .ensures) _ (at-suite .suite .given .1) _ (c .before .is-past .ensures) (c .if1 .taken) in
     (q .0 .0, q .1 .0)
 
-context-of-requires : tie.Need-context-of-requires
-context-of-requires c κs =
-    let at-suite = to-suite-from-context-of-arg c in
-    let at-start = to-start-from-suite at-suite in
-    known-possible checking (at-start .args .state .now) _ _ (at-suite .before .before .line-of .ensures) (at-suite .suite .given .1) .sized
-
 take-in-requires : tie.Need-take-in-requires
 take-in-requires c κs =
     let at-else1 = to-else1 c in
     let at-suite = to-suite-from-else1 at-else1 in
     let at-start = to-start-from-suite at-suite in
-    let p = known-possible checking (at-start .args .state .now) _ _ (at-suite .before .before .line-of .ensures) (at-suite .suite .given .1) in ((p .sized, c .before .before .context-of .ensures), within (at-start .args .state .now) _ _ p (at-else1 .before .is-past .ensures) (at-else1 .if1 .left))
+    let p = known-possible checking (at-start .args .state .now) _ _ (at-suite .before .before .line-of .ensures) (at-suite .suite .given .1) in (p .sized, within (at-start .args .state .now) _ _ p (at-else1 .before .is-past .ensures) (at-else1 .if1 .left))
 
 same-length-3 : tie.Need-same-length-3
 same-length-3 c = search needs
@@ -117,7 +101,6 @@ check-piece-spec =
     is-past-requires
     same-length-2
     returns-2
-    context-of-requires
     take-in-requires
     same-length-3
     returns-3)

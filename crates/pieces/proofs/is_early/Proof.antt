@@ -6,10 +6,6 @@ use mathlib.Core.Path.{ap₂}
 use borrow.Author.Needs.{needs}
 use Rattle.pieces.proofs.is_early.Statement.{statement}
 use Rattle.pieces.proofs.is_early.Tie as tie
-use Rattle.pieces.proofs.is_early.Reads as reads
-use Rattle.pieces.proofs.is_early.Lts as lts
-use Rattle.pieces.proofs.state.announced_of.Reads as announced-of-reads
-use Rattle.pieces.proofs.state.taken_of.Reads as taken-of-reads
 
 taken-of-requires : tie.Need-taken-of-requires
 taken-of-requires c κs = search needs

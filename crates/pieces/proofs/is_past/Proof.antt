@@ -1,13 +1,9 @@
 -- SPDX-License-Identifier: MIT
-use Rattle.pieces.proofs.Steps.{past-is}
-use mathlib.Core.Path.{_≡_, refl, sym, _∙_, ap}
+use Rattle.pieces.proofs.CallSteps.{past-is}
+use mathlib.Core.Path.{refl}
 use borrow.Author.Needs.{needs}
 use Rattle.pieces.proofs.is_past.Statement.{statement}
 use Rattle.pieces.proofs.is_past.Tie as tie
-use Rattle.pieces.proofs.is_past.Reads as reads
-use Rattle.pieces.proofs.is_past.Lts as lts
-use Rattle.pieces.proofs.state.announced_of.Reads as announced-of-reads
-use Rattle.pieces.proofs.state.taken_of.Reads as taken-of-reads
 
 announced-of-requires : tie.Need-announced-of-requires
 announced-of-requires c κs = search needs

@@ -1,19 +1,13 @@
 -- SPDX-License-Identifier: MIT
 use Rattle.pieces.proofs.Begins.{begun-written}
 use mathlib.Core.List.{_++_}
-use lib.ListN.{length, take, drop, length-take, length-drop, length-append}
-use Rattle.suites.proofs.Laws.{Nk-most, Nt-most, ctr-sizes, gcm-sizes}
+use lib.ListN.{length-append}
+use Rattle.suites.proofs.Laws.{Nk-most}
 use native.Mathlib.Omega.{arith}
-use mathlib.Core.Path.{_≡_, refl, sym, _∙_, ap}
+use mathlib.Core.Path.{refl, sym}
 use borrow.Author.Needs.{needs}
 use Rattle.pieces.proofs.beginning.begin.Statement.{statement}
 use Rattle.pieces.proofs.beginning.begin.Tie as tie
-use Rattle.pieces.proofs.beginning.begin.Reads as reads
-use Rattle.pieces.proofs.beginning.begin.Lts as lts
-use Rattle.octets.proofs.copy_at.Reads as copy-at-reads
-use Rattle.pieces.proofs.beginning.begin_hash.Reads as begin-hash-reads
-use Rattle.pieces.proofs.beginning.write_front.Reads as write-front-reads
-use Rattle.pieces.proofs.beginning.write_key.Reads as write-key-reads
 
 add-write-front : tie.Need-add-write-front
 add-write-front c = search needs

@@ -1,18 +1,10 @@
 -- SPDX-License-Identifier: MIT
 use Rattle.pieces.proofs.Begins.{begun-gcm}
-use Rattle.pieces.proofs.Steps.{ready}
-use native.Mathlib.Omega.{arith}
-use mathlib.Core.Path.{_≡_, refl, sym, _∙_, ap}
+use Rattle.piece_line.proofs.Steps.{ready}
+use mathlib.Core.Path.{refl}
 use borrow.Author.Needs.{needs}
 use Rattle.pieces.proofs.beginning.begin_gcm.Statement.{statement}
 use Rattle.pieces.proofs.beginning.begin_gcm.Tie as tie
-use Rattle.pieces.proofs.beginning.begin_gcm.Reads as reads
-use Rattle.pieces.proofs.beginning.begin_gcm.Lts as lts
-use Rattle.aes_keys.proofs.blank.Reads as blank-reads
-use Rattle.ghash.proofs.absorb.Reads as absorb-reads
-use Rattle.piece_hash.proofs.save_block.Reads as save-block-reads
-use Rattle.pieces.proofs.line.hash_key.Reads as hash-key-reads
-use Rattle.suites.proofs.aead.context.Reads as context-reads
 
 blank-requires : tie.Need-blank-requires
 blank-requires c κs = search needs

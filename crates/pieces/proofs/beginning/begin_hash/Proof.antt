@@ -1,22 +1,16 @@
 -- SPDX-License-Identifier: MIT
 use Rattle.suites.specs.Suites.{Nt}
-use Rattle.pieces.specs.Line.{hashAfter}
+use Rattle.piece_line.specs.Line.{hashAfter}
 use Rattle.suites.specs.declared.sizes.Mode.{Mode}
 use Prim.Native.Nat.{ℕ}
 use mathlib.Core.List.{[], _++_}
 use mathlib.Core.Path.{ap₂}
-use Rattle.suites.proofs.Laws.{Nk-most, Nt-most, ctr-sizes, gcm-sizes}
+use Rattle.suites.proofs.Laws.{ctr-sizes}
 use native.Mathlib.Omega.{arith}
-use mathlib.Core.Path.{_≡_, refl, sym, _∙_, ap}
+use mathlib.Core.Path.{sym, _∙_, ap}
 use borrow.Author.Needs.{needs}
 use Rattle.pieces.proofs.beginning.begin_hash.Statement.{statement}
 use Rattle.pieces.proofs.beginning.begin_hash.Tie as tie
-use Rattle.pieces.proofs.beginning.begin_hash.Reads as reads
-use Rattle.pieces.proofs.beginning.begin_hash.Lts as lts
-use Rattle.pieces.proofs.beginning.begin_gcm.Reads as begin-gcm-reads
-use Rattle.pieces.proofs.beginning.begin_hmac.Reads as begin-hmac-reads
-use Rattle.suites.proofs.sizes.Suite.mode.Reads as mode-reads
-use Rattle.suites.proofs.sizes.Suite.tag_size.Reads as tag-size-reads
 
 mode-requires : tie.Need-mode-requires
 mode-requires c κs = search needs

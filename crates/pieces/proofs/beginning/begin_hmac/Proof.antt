@@ -5,20 +5,11 @@ use Rattle.sha2.specs.Sizes.{sha256}
 use lib.ListN.{length}
 use Prim.Native.Nat.{_+_, _≤_}
 use Rattle.pieces.proofs.Begins.{begun-hmac}
-use Rattle.sha256.specs.inner.State.{state256}
 use native.Mathlib.Omega.{arith}
-use mathlib.Core.Path.{_≡_, refl, sym, _∙_, ap}
+use mathlib.Core.Path.{refl, _∙_, ap}
 use borrow.Author.Needs.{needs}
 use Rattle.pieces.proofs.beginning.begin_hmac.Statement.{statement}
 use Rattle.pieces.proofs.beginning.begin_hmac.Tie as tie
-use Rattle.pieces.proofs.beginning.begin_hmac.Reads as reads
-use Rattle.pieces.proofs.beginning.begin_hmac.Lts as lts
-use Rattle.hmac.proofs.block_key.Reads as block-key-reads
-use Rattle.hmac.proofs.masked_block.Reads as masked-block-reads
-use Rattle.hmac_tag.proofs.lengths.Reads as lengths-reads
-use Rattle.piece_hash.proofs.save.Reads as save-reads
-use Rattle.sha256.proofs.Sha256.feed.Reads as feed-reads
-use Rattle.sha256.proofs.Sha256.new.Reads as new-reads
 
 sub-block-key : tie.Need-sub-block-key
 sub-block-key c = search needs

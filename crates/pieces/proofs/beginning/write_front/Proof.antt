@@ -4,10 +4,6 @@ use native.Mathlib.Omega.{arith}
 use borrow.Author.Needs.{needs}
 use Rattle.pieces.proofs.beginning.write_front.Statement.{statement}
 use Rattle.pieces.proofs.beginning.write_front.Tie as tie
-use Rattle.pieces.proofs.beginning.write_front.Reads as reads
-use Rattle.pieces.proofs.beginning.write_front.Lts as lts
-use Rattle.octets.proofs.write_be_at.Reads as write-be-at-reads
-use Rattle.suites.proofs.sizes.Suite.number.Reads as number-reads
 
 write-be-at-requires : tie.Need-write-be-at-requires
 write-be-at-requires c κs = search needs

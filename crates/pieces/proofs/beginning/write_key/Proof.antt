@@ -3,11 +3,6 @@ use Rattle.pieces.proofs.Begins.{key-written}
 use borrow.Author.Needs.{needs}
 use Rattle.pieces.proofs.beginning.write_key.Statement.{statement}
 use Rattle.pieces.proofs.beginning.write_key.Tie as tie
-use Rattle.pieces.proofs.beginning.write_key.Reads as reads
-use Rattle.pieces.proofs.beginning.write_key.Lts as lts
-use Rattle.octets.proofs.copy.Reads as copy-reads
-use Rattle.octets.proofs.copy_at.Reads as copy-at-reads
-use Rattle.octets.proofs.write_be_at.Reads as write-be-at-reads
 
 slice-aggregate-copy : tie.Need-slice-aggregate-copy
 slice-aggregate-copy c = search needs
