@@ -1,18 +1,16 @@
 -- SPDX-License-Identifier: MIT
 -- What the crates above cite of AES.
 -- Assumes nothing.
-use mathlib.Core.Path.{_≡_, sym, subst}
+use mathlib.Core.Path.{_≡_}
 use mathlib.Core.List.{List, _++_}
 use mathlib.Core.Logic.{_⊎_, inl, inr}
-use Prim.Native.Nat.{ℕ, zero, suc, _+_, _*_, _/_, _%_, _≤_}
+use Prim.Native.Nat.{ℕ, zero, suc, _+_, _*_, _/_, _%_}
 use native.Mathlib.Nat.{div-add-mod'}
 use native.Mathlib.Omega.{arith}
-use lib.ListN.{length, getD, take, drop, length-append, length-drop, take-append-drop}
-use lib.Seq.{take-all, drop-drop}
-use Rattle.octets.specs.Octets.{Octets, number, bytes}
-use Rattle.octets.proofs.Laws.{bytes-length, bytes-octets, bytes-number, octets-append, octets-drop}
-use Rattle.aes.specs.Aes.{KeySize, stateOf, blockOf, encrypt}
-use Rattle.aes.specs.inner.Context.{Context, Ready, keyOf}
+use lib.ListN.{length, getD, length-append}
+use Rattle.octets.specs.Octets.{Octets, bytes}
+use Rattle.octets.proofs.Laws.{bytes-length, bytes-octets, octets-append}
+use Rattle.aes.specs.Aes.{KeySize, blockOf, encrypt}
 
 -- The two instances: AES-128 and AES-256.
 pub aes-128 : KeySize 16
@@ -32,13 +30,6 @@ key-sizes n k = by (n / 8) (div-add-mod' n 8)
     by (suc (suc (suc zero))) e = inr (inl (omega (arith, k .whole)))
     by (suc (suc (suc (suc zero)))) e = inr (inr (omega (arith, k .whole)))
     by (suc (suc (suc (suc (suc q))))) e = absurd (omega (arith, k .whole, k .least, k .most))
-
--- A context is of the key that it holds.
-pub context-key : {key ctx : List ℕ} → Context key ctx → keyOf ctx ≡ key
-context-key k = k .keyed
-
-pub context-ready : {key ctx : List ℕ} → Context key ctx → Ready ctx
-context-ready {key} {ctx} k = subst (λ (x : List ℕ). Context x ctx) (sym (k .keyed)) k
 
 -- A block is 16 bytes.
 pub block-length : (s : List ℕ) → length (blockOf s) ≡ 16
@@ -62,18 +53,3 @@ encrypt-length key block = block-length _
 pub encrypt-octets : (key block : List ℕ) → Octets (encrypt key block)
 unfolding encrypt
 encrypt-octets key block = block-octets _
-
--- A block of 16 bytes is that of its own state.
-pub block-state : (l : List ℕ) → length l ≡ 16 → Octets l → blockOf (stateOf l) ≡ l
-unfolding blockOf stateOf
-block-state l e o =
-    let w : (c : ℕ) → 4 * c + 4 ≤ 16 → bytes 4 (number 4 (drop (4 * c) l)) ≡ take 4 (drop (4 * c) l) =
-    λ c h. bytes-number 4 (drop (4 * c) l) (octets-drop (4 * c) l o) (simp length-drop (omega arith)) in
-    rw (w 0 (omega arith), w 1 (omega arith), w 2 (omega arith), w 3 (omega arith))
-    (rw (
-      take-all 4 (drop 12 l) (simp length-drop (omega arith)),
-      ← drop-drop 4 8 l,
-      take-append-drop 4 (drop 8 l),
-      ← drop-drop 4 4 l,
-      take-append-drop 4 (drop 4 l),
-    ) (take-append-drop 4 l))

@@ -2,5 +2,4 @@
 pub mod Words
 pub mod Columns
 pub mod Expansion
-pub mod Blocks
 pub mod Laws

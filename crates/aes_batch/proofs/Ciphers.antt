@@ -7,8 +7,8 @@ use Prim.Native.Nat.{ℕ, zero, suc, _+_, _*_, _-_, _≤_, _<_}
 use native.Mathlib.Numerals.{add-one}
 use native.Mathlib.Omega.{arith}
 use lib.ListN.{length, take, drop}
-use Rattle.aes.specs.Aes.{Nr, keyExpansion, addRoundKey, mixColumns, shiftRows, subBytes, rounds, cipher, encryptState}
-use Rattle.aes.proofs.Expansion.{rounds-step}
+use Rattle.aes.specs.Aes.{Nr, keyExpansion, rounds}
+use Rattle.aes.proofs.Expansion.{rounds-step, encrypted}
 use Rattle.aes_rows.specs.Rows.{Each, Substituting, Adding}
 use Rattle.aes_rows.specs.Rounds.{AllMixed, AllShifted}
 use Rattle.aes_rows.specs.Blocks.{state}
@@ -39,11 +39,11 @@ module _ (key ctx q : List ℕ) (k : Context key ctx) where
   -- The first round key before the rounds, and the last round after them.
   pub rounds-last : (n r : ℕ) (z o p t u v : List ℕ) → n ≡ Nr key → r ≡ n → o ≡ planesAt ctx 0 → Each (Adding o) 4 z q → p ≡ planesAt ctx n
       → Rounded key q (r - 1) t → Each Substituting 4 t u → AllShifted u p v → Encrypted key z v
-  unfolding encryptState cipher
   rounds-last n r z o p t u v f g d b e a s m =
       record {
         sized = m .sized;
         each = λ l h.
+            let first = key-added (keyExpansion key) 0 z o q b (rw d (k .keys .planes 0 (omega arith))) l h in
             last-round (keyExpansion key) n t u p v s (rw e (k .keys .planes n (omega arith))) l h m
-            ∙ rw (a .each l h, g, key-added (keyExpansion key) 0 z o q b (rw d (k .keys .planes 0 (omega arith))) l h, f);
+            ∙ rw f (encrypted key (state z l) (state q l) (state t l) (r - 1) (omega arith) first (a .each l h));
       }

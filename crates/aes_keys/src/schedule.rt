@@ -12,7 +12,7 @@ ghost use lib.Bits.{bitAnd};
 ghost use lib.ListN.{length, take};
 ghost use Rattle.aes_tables.specs.inner.Tables.{RconTable};
 ghost use Rattle.aes.specs.Aes.{word, KeySize, Nk, Nr, subWord, transformed, expansion, keyExpansion};
-ghost use Rattle.aes.specs.inner.Context.{maxWords};
+ghost use Rattle.aes.specs.inner.Schedule.{maxWords};
 ghost use Rattle.bitslice.specs.Lanes.{lane, laneByte};
 
 // Every eighth of the lowest 32 bits.

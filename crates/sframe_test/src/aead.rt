@@ -7,7 +7,7 @@ ghost use Prim.Native.Nat.{_+_, _≤_};
 ghost use lib.ListN.{length, drop};
 ghost use Rattle.octets.specs.Octets.{number, bytes};
 ghost use Rattle.aes.specs.Aes.{KeySize, blockSize, encrypt};
-ghost use Rattle.aes.specs.inner.Context.{Ready, keyOf};
+ghost use Rattle.aes_block.specs.inner.Context.{Ready, keyOf};
 ghost use Rattle.aes_keys.specs.inner.Keys as keys;
 ghost use Rattle.gcm.specs.Counter.{nonceSize, ctr};
 ghost use Rattle.ghash.specs.Ghash.{absorb};
@@ -47,22 +47,22 @@ pub extern "C" fn sframe_test_aes(key: &[u8], block: &[u8], out: &mut [u8]) -> u
     if out.len() < 16 {
         return 1;
     }
-    let ctx = aes::expand(key);
-    aes::encrypt_block(&ctx, block, out);
+    let ctx = aes_block::expand(key);
+    aes_block::encrypt_block(&ctx, block, out);
     0
 }
 
 // Encrypts the block in out, 16 bytes, n times over.
-fn repeat(ctx: &aes::Context, n: u32, out: &mut [u8])
+fn repeat(ctx: &aes_block::Context, n: u32, out: &mut [u8])
     requires { ⌜ Ready (now ctx) ⌝ }
     requires { ⌜ length (now out) ≡ blockSize ⌝ }
     ensures { λ _. ⌜ now (out .exit) ≡ repeated (encrypt (keyOf (now (ctx .entry)))) n (now (out .entry)) ⌝ }
 {
     let mut i = 0;
     while i < n {
-        let s = aes::load(out);
-        let t = aes::encrypt(ctx, s);
-        aes::store(out, t);
+        let s = aes_block::load(out);
+        let t = aes_block::encrypt(ctx, s);
+        aes_block::store(out, t);
         i += 1;
     }
 }
@@ -81,7 +81,7 @@ pub extern "C" fn sframe_test_aes_repeat(key: &[u8], block: &[u8], n: u32, out: 
     if out.len() != 16 {
         return 1;
     }
-    let ctx = aes::expand(key);
+    let ctx = aes_block::expand(key);
     octets::copy(out, block);
     repeat(&ctx, n, out);
     0

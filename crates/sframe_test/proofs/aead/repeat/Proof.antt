@@ -6,7 +6,7 @@ use Prim.Native.Nat.{_+_, _≤_, _-_}
 use native.Mathlib.Omega.{arith}
 use lib.ListN.{length}
 use Rattle.aes.specs.Aes.{encrypt}
-use Rattle.aes.specs.inner.Context.{keyOf}
+use Rattle.aes_block.specs.inner.Context.{keyOf}
 use Rattle.sframe_test.specs.Repeated.{repeated}
 use Rattle.sframe_test.proofs.Steps.{encrypt-step, repeat-step}
 use borrow.Author.Needs.{needs}

@@ -5,7 +5,7 @@ use mathlib.Core.Path.{refl}
 use mathlib.Core.Logic.{inl, inr}
 use native.Mathlib.Omega.{arith}
 use borrow.Author.Tests.{not-true, not-false}
-use Rattle.aes.proofs.Laws.{context-key, context-ready}
+use Rattle.aes_block.proofs.Contexts.{context-key, context-ready}
 use Rattle.sframe_test.proofs.Steps.{key-size}
 use borrow.Author.Needs.{needs}
 use Rattle.sframe_test.proofs.aead.sframe_test_aes.Statement.{statement}

@@ -1,0 +1,4 @@
+-- SPDX-License-Identifier: MIT
+mod Rounds
+pub mod Contexts
+mod Blocks
