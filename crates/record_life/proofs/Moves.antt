@@ -17,12 +17,12 @@ use Rattle.key_record.specs.inner.Rows.{kept}
 use Rattle.key_record.specs.declared.Role.{Role}
 use Rattle.key_record.specs.declared.Role.the-variants.{Sending, Receiving}
 use Rattle.window.specs.Window.{moved}
-use Rattle.store.specs.Calls.{remove, find}
+use Rattle.store_calls.specs.Calls.{remove, find}
 use Rattle.store.specs.Cipher.{Cipher}
 use Rattle.store.specs.Store.{records}
 use Rattle.store.specs.Table.{get, put, insert, without}
 use Rattle.store.proofs.CipherLaws.{Laws}
-use Rattle.store.proofs.Keys.{RemoveStep, remove-step}
+use Rattle.store_calls.proofs.Keys.{RemoveStep, remove-step}
 use Rattle.store.proofs.Stores.{Stored, Change, stored-records}
 use Rattle.add_key.specs.Add.{add, added as addedRecord}
 use Rattle.add_key.proofs.Adds.{AddStep, add-step}

@@ -22,14 +22,15 @@ use Rattle.begin_check.proofs.Checks.{check-store}
 use Rattle.header.specs.Answers.{readKid, readCtr}
 use Rattle.header.specs.Header.{header, readHeader}
 use Rattle.answers.specs.Answers.{Outcome}
-use Rattle.store.specs.Calls.{make, remove, find}
+use Rattle.store_calls.specs.Calls.{make, remove, find}
 use Rattle.add_key.specs.Add.{add, added as addedRecord}
 use Rattle.store.specs.Cipher.{Cipher}
 use Rattle.key_record.specs.Record.{ceiling, SendingKey, ReceivingKey, KeyRecord, empty, sending, receiving, retired, isReceiving, counterOf}
 use Rattle.store.specs.Table.{get, put, insert, without}
 use Rattle.answers.proofs.Basics.{Two, yes′, no′, two, settled-store}
 use Rattle.store.proofs.CipherLaws.{Laws, Usable}
-use Rattle.store.proofs.Keys.{make-stored, empties-get, RemoveStep, remove-step}
+use Rattle.store_calls.proofs.Keys.{make-stored, RemoveStep, remove-step}
+use Rattle.store.proofs.Empties.{empties-get}
 use Rattle.key_record.specs.inner.Rows.{kept}
 use Rattle.add_key.proofs.Adds.{AddStep, add-step}
 use Rattle.store.proofs.Stores.{Stored, Change}

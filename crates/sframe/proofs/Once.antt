@@ -17,11 +17,11 @@ use Rattle.window.specs.declared.Window.{Window}
 use Rattle.window.proofs.Laws.{moved-seen, moved-others, moved-old}
 use Rattle.key_record.specs.Record.{KeyRecord, empty, sending, receiving, retired}
 use Rattle.key_record.specs.inner.Rows.{kept}
-use Rattle.store.specs.Calls.{make, remove}
+use Rattle.store_calls.specs.Calls.{make, remove}
 use Rattle.store.specs.Cipher.{Cipher}
 use Rattle.store.specs.Table.{get, put, insert, without}
 use Rattle.store.proofs.CipherLaws.{Laws}
-use Rattle.store.proofs.Keys.{make-stored, RemoveStep, remove-step}
+use Rattle.store_calls.proofs.Keys.{make-stored, RemoveStep, remove-step}
 use Rattle.store.proofs.Stores.{Stored, Change}
 use Rattle.add_key.specs.Add.{add, added as addedRecord}
 use Rattle.add_key.proofs.Adds.{AddStep, add-step}

@@ -9,14 +9,14 @@ use Rattle.octets.specs.Octets.{Octets, pick}
 use Rattle.answers.specs.Answers.{Outcome, settled}
 use Rattle.answers.proofs.Basics.{RefusalOn}
 use Rattle.pieces.specs.Calls.{Result, refusal, sealPiece, sealEnd, checkPiece}
-use Rattle.store.specs.Calls.{make, removeAt, remove, find}
+use Rattle.store_calls.specs.Calls.{make, removeAt, remove, find}
 use Rattle.add_key.specs.Add.{addAt, add}
 use Rattle.store.specs.Cipher.{Cipher}
 use Rattle.key_record.specs.Record.{KeyRecord, empty}
 use Rattle.store.specs.Store.{records, sound}
 use Rattle.store.specs.Table.{get}
 use Rattle.store.proofs.CipherLaws.{Laws}
-use Rattle.store.proofs.Keys.{make-stored, RemoveStep, remove-step}
+use Rattle.store_calls.proofs.Keys.{make-stored, RemoveStep, remove-step}
 use Rattle.add_key.proofs.Adds.{AddStep, add-step}
 use Rattle.store.proofs.Stores.{Stored, sound-stored, stored-sound, stored-records, stored-octets, stored-lengths}
 use Rattle.seal_frame.specs.Seal.{sealAt, seal}

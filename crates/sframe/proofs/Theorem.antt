@@ -14,7 +14,7 @@ use Rattle.header.specs.Answers.{readKid}
 use Rattle.header.specs.Header.{readHeader}
 use Rattle.answers.specs.Answers.{alreadyOpened, counterTooOld}
 use Rattle.window.specs.Window.{fresh}
-use Rattle.store.specs.Calls.{make}
+use Rattle.store_calls.specs.Calls.{make}
 use Rattle.store.specs.Cipher.{Cipher}
 use Rattle.key_record.specs.Record.{ReceivingKey, suiteOf}
 use Rattle.key_record.specs.Suites.{tagSize}

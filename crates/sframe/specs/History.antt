@@ -10,7 +10,7 @@ use Rattle.octets.specs.Octets.{Octets, pick}
 use Rattle.header.specs.Answers.{readKid, readCtr}
 use Rattle.header.specs.Header.{readHeader}
 use Rattle.answers.specs.Answers.{Outcome}
-use Rattle.store.specs.Calls.{make, remove, find}
+use Rattle.store_calls.specs.Calls.{make, remove, find}
 use Rattle.add_key.specs.Add.{add}
 use Rattle.store.specs.Cipher.{Cipher}
 use Rattle.pieces.specs.Calls.{Result, sealPiece, sealEnd, checkPiece, checkEnd}

@@ -1,8 +1,8 @@
 -- SPDX-License-Identifier: MIT
--- Making a store, removing a key: number, length, store and room afterwards, for every input.
+-- Making a store, removing a key, finding a record: number, length, store and room afterwards, for every input.
 -- The causes of refusal stand in the order in which they are tried.
 -- Assumes nothing.
-use mathlib.Core.Bool.{Bool, true, false, not}
+use mathlib.Core.Bool.{Bool, not}
 use mathlib.Core.List.{List, [], _∷_}
 use Prim.Native.Nat.{ℕ}
 use lib.Dec.{eqb}
@@ -10,12 +10,8 @@ use lib.ListN.{length, replicate}
 use Rattle.octets.specs.Octets.{pick}
 use Rattle.answers.specs.Answers.{done, storeInvalid, kidMissing, roleRefused, Cause, _if_, first, Outcome, settled}
 use Rattle.key_record.specs.Record.{KeyRecord, empty, sending, receiving, retired, isEmpty, isRetired}
-use Rattle.store.specs.Store.{lengthRight, encodeAll, records, sound}
+use Rattle.store.specs.Store.{lengthRight, encodeAll, records, sound, stored}
 use Rattle.store.specs.Table.{get, put, without, placeOf}
-
--- The outcome of a call that succeeds and has no room.
-abbrev pub stored : List ℕ → Outcome
-stored s = record { number = 0; written = 0; store = s; room = []; state = [] }
 
 -- ---- Make
 

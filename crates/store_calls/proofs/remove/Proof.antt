@@ -1,13 +1,12 @@
 -- SPDX-License-Identifier: MIT
-use mathlib.Core.Path.{_≡_, refl, sym, _∙_, ap}
+use mathlib.Core.Path.{_∙_, ap}
 use native.Mathlib.Omega.{arith}
 use borrow.Author.Needs.{needs}
 use Rattle.key_record.specs.inner.Rows.{kindOf}
-use Rattle.store.specs.inner.Places.{Within}
 use Rattle.store.proofs.Places.{tested-sound, found-within}
-use Rattle.store.proofs.Removal.{remove-unsound, remove-missing, remove-empty, remove-retired, remove-receiving, sender-sends, remove-sending}
-use Rattle.store.proofs.remove.Statement.{statement}
-use Rattle.store.proofs.remove.Tie as tie
+use Rattle.store_calls.proofs.Removal.{remove-unsound, remove-missing, remove-empty, remove-retired, remove-receiving, sender-sends, remove-sending}
+use Rattle.store_calls.proofs.remove.Statement.{statement}
+use Rattle.store_calls.proofs.remove.Tie as tie
 
 -- ---- points of the program, each reached from a later one
 

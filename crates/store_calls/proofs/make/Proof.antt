@@ -1,8 +1,8 @@
 -- SPDX-License-Identifier: MIT
 use borrow.Author.Needs.{needs}
-use Rattle.store.proofs.Removal.{make-refused, make-done}
-use Rattle.store.proofs.make.Statement.{statement}
-use Rattle.store.proofs.make.Tie as tie
+use Rattle.store_calls.proofs.Removal.{make-refused, make-done}
+use Rattle.store_calls.proofs.make.Statement.{statement}
+use Rattle.store_calls.proofs.make.Tie as tie
 
 -- ---- points of the program, each reached from a later one
 

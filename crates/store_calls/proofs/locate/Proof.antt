@@ -1,9 +1,9 @@
 -- SPDX-License-Identifier: MIT
 use borrow.Author.Needs.{needs}
 use Rattle.answers.proofs.Basics.{told-true}
-use Rattle.store.proofs.Finds.{find-unsound, find-missing, find-done}
-use Rattle.store.proofs.locate.Statement.{statement}
-use Rattle.store.proofs.locate.Tie as tie
+use Rattle.store_calls.proofs.Finds.{find-unsound, find-missing, find-done}
+use Rattle.store_calls.proofs.locate.Statement.{statement}
+use Rattle.store_calls.proofs.locate.Tie as tie
 
 -- ---- points of the program, each reached from a later one
 

@@ -2,60 +2,26 @@
 -- What making a store and removing a key do to the table. Assumes nothing.
 use mathlib.Core.Path.{_≡_, refl, sym, _∙_, ap, ap₂}
 use mathlib.Core.Bool.{Bool, true, not, false≢true}
-use mathlib.Core.List.{List, [], _∷_, _++_}
-use Prim.Native.Nat.{ℕ, zero, suc, _+_, _*_, _/_, _^_, _<_}
+use mathlib.Core.List.{List, [], _∷_}
+use Prim.Native.Nat.{ℕ, _*_, _/_}
 use native.Mathlib.Omega.{arith}
-use lib.ListN.{length, replicate, length-replicate, replicate-append-replicate}
-use borrow.Author.Tests.{eq-eqb, not-false}
-use Rattle.octets.specs.Octets.{Octets}
+use lib.ListN.{length, replicate, length-replicate}
+use borrow.Author.Tests.{not-false}
 use Rattle.answers.specs.Answers.{storeInvalid, _if_, Outcome}
 use Rattle.window.specs.declared.Window.{Window}
-use Rattle.store.specs.Calls.{stored, make, removed, removeCauses, removeAt, remove}
+use Rattle.store_calls.specs.Calls.{make, removed, removeCauses, removeAt, remove}
 use Rattle.key_record.specs.inner.Rows.{kept}
-use Rattle.store.specs.Cipher.{Cipher}
-use Rattle.key_record.specs.Layout.{recordSize, encode}
-use Rattle.key_record.specs.Record.{SendingKey, ReceivingKey, KeyRecord, empty, sending, receiving, retired, isEmpty, holds, inOrder}
-use Rattle.store.specs.Store.{lengthRight, encodeAll}
-use Rattle.store.specs.Table.{get, put, without, orderedFrom, ordered}
+use Rattle.key_record.specs.Layout.{recordSize}
+use Rattle.key_record.specs.Record.{SendingKey, ReceivingKey, KeyRecord, empty, sending, receiving, retired, holds}
+use Rattle.store.specs.Store.{lengthRight, encodeAll, stored}
+use Rattle.store.specs.Table.{get, put, without}
 use Rattle.answers.proofs.Basics.{Settled, success, refusal, settle}
-use Rattle.store.proofs.CipherLaws.{Laws}
-use Rattle.key_record.proofs.Codec.{Secret, Fit}
-use Rattle.store.proofs.Stores.{AllFit, Table, length-right, Stored, stored-sound, stored-records, Change, put-change, without-change, get-fit}
-use Rattle.store.proofs.Tables.{get-holds, empty-is}
-use Rattle.key_record.specs.declared.Role.{Role}
-use Rattle.key_record.specs.declared.Role.the-variants.{Sending, Receiving}
+use Rattle.key_record.proofs.Codec.{Fit}
+use Rattle.store.proofs.Empties.{zeros, empties-fit, empties-ordered}
+use Rattle.store.proofs.Stores.{length-right, Stored, stored-sound, stored-records, Change, put-change, without-change, get-fit}
+use Rattle.store.proofs.Tables.{get-holds}
 
 -- ---- Make
-
-pub zeros : (n : ℕ) → encodeAll (replicate n empty) ≡ replicate (n * recordSize) 0
-unfolding encodeAll encode
-zeros zero = refl
-zeros (suc n) =
-    ap (λ (l : List ℕ). replicate {A = ℕ} recordSize 0 ++ l) (zeros n)
-    ∙ replicate-append-replicate {A = ℕ} recordSize (n * recordSize) 0
-    ∙ ap (λ (k : ℕ). replicate {A = ℕ} k 0) next
-  where
-    next : recordSize + n * recordSize ≡ suc n * recordSize
-    next = omega arith
-
-empties-fit : (n : ℕ) → AllFit (replicate n empty)
-empties-fit zero = tt
-empties-fit (suc n) = (tt, empties-fit n)
-
-pub empties-from : (n : ℕ) → orderedFrom empty (replicate n empty) ≡ true
-unfolding orderedFrom inOrder
-empties-from zero = refl
-empties-from (suc n) = empties-from n
-
-empties-ordered : (n : ℕ) → ordered (replicate n empty) ≡ true
-unfolding ordered
-empties-ordered zero = refl
-empties-ordered (suc n) = empties-from n
-
-pub empties-get : (kid n : ℕ) → get kid (replicate n empty) ≡ empty
-unfolding get holds
-empties-get kid zero = refl
-empties-get kid (suc n) = empties-get kid n
 
 -- a store that is made is a table of empty records
 pub record Made (s : List ℕ) : Type 0 where

@@ -1,21 +1,21 @@
 -- SPDX-License-Identifier: MIT
 -- What Find answers, cause by cause, over plain variables. Assumes nothing.
-use mathlib.Core.Path.{_≡_, refl, sym, _∙_, ap}
+use mathlib.Core.Path.{_≡_, sym, _∙_, ap}
 use mathlib.Core.Bool.{Bool, true, false, not}
-use mathlib.Core.List.{List, []}
+use mathlib.Core.List.{List}
 use Prim.Native.Nat.{ℕ}
 use lib.ListN.{getD}
-use Rattle.answers.specs.Answers.{done, storeInvalid, kidMissing, first, Outcome, settled}
+use Rattle.answers.specs.Answers.{done, storeInvalid, kidMissing, first, settled}
 use Rattle.answers.proofs.Basics.{told-false, told-true}
-use Rattle.key_record.specs.Record.{KeyRecord, empty, isEmpty}
+use Rattle.key_record.specs.Record.{empty, isEmpty}
 use Rattle.key_record.proofs.KindLaws.{holds-some}
-use Rattle.store.specs.Calls.{stored, findCauses, find, found}
+use Rattle.store_calls.specs.Calls.{findCauses, find, found}
 use Rattle.store.specs.Store.{records, sound}
-use Rattle.store.specs.Table.{get, placeOf, FoundIn}
+use Rattle.store.specs.Table.{get, FoundIn}
 use Rattle.store.specs.declared.Place.{Place}
 use Rattle.store.specs.declared.Place.the-variants.{At, Nowhere}
 use Rattle.store.proofs.Tables.{place-is}
 use Rattle.store.proofs.Places.{sound-apart}
 
 module _ (s : List ℕ) (kid : ℕ) (r : Bool) (e : r ≡ sound s) where
   pub find-unsound : not r ≡ true → (storeInvalid ≡ find s kid .number) × (0 ≡ found s kid)

@@ -9,20 +9,20 @@ use lib.ListN.{length, getD, set, replicate}
 use Rattle.octets.specs.Octets.{Octets}
 use Rattle.answers.specs.Answers.{done, storeInvalid, kidMissing, roleRefused, first, Outcome, settled}
 use Rattle.answers.proofs.Basics.{told-false, told-true}
-use Rattle.store.specs.Calls.{stored, make, removed, removeCauses, removeAt, remove}
+use Rattle.store_calls.specs.Calls.{make, removed, removeCauses, removeAt, remove}
 use Rattle.key_record.specs.Record.{KeyRecord, empty, sending, receiving, retired, isSending, holds}
-use Rattle.store.specs.Store.{lengthRight, encodeAll, records, sound}
+use Rattle.store.specs.Store.{lengthRight, encodeAll, records, sound, stored}
 use Rattle.store.specs.Table.{get, apart, FoundIn}
 use Rattle.store.specs.inner.Places.{closed}
 use Rattle.key_record.specs.inner.Rows.{kindOf, kept}
 use Rattle.key_record.specs.declared.Kind.{Kind}
 use Rattle.key_record.specs.declared.Kind.the-variants.{Empty, Sender, Receiver, Retired}
 use Rattle.store.specs.declared.Place.{Place}
 use Rattle.store.specs.declared.Place.the-variants.{At, Nowhere}
 use Rattle.key_record.proofs.KindLaws.{kind-sends}
 use Rattle.store.proofs.Stores.{sound-stored, kids-apart}
 use Rattle.store.proofs.Tables.{put-at}
 use Rattle.store.proofs.Order.{without-at}
 
 -- ---- Make
 
