@@ -19,7 +19,7 @@ use Rattle.store.proofs.CipherLaws.{Laws}
 use Rattle.store_calls.proofs.Keys.{make-stored, RemoveStep, remove-step}
 use Rattle.add_key.proofs.Adds.{AddStep, add-step}
 use Rattle.store.proofs.Stores.{Stored, sound-stored, stored-sound, stored-records, stored-octets, stored-lengths}
-use Rattle.seal_frame.specs.Seal.{sealAt, seal}
+use Rattle.judge_seal.specs.Seal.{sealAt, seal}
 use Rattle.begin_seal.specs.Begin.{sealBegin}
 use Rattle.begin_seal.proofs.Begins.{begin-refused, BeginStep, begin-step}
 use Rattle.begin_check.proofs.Checks.{check-store, check-begin-refused}
@@ -34,7 +34,7 @@ use Rattle.sframe.specs.Promises.{Unchanged, EpochChanged}
 use Rattle.sframe.specs.History.{Call, Add, Remove, Seal, Open, Report, Find, ChangeEpoch, Begin, Piece, End, CheckBegin, CheckPiece, CheckEnd, Typed, roomOf, stateOf, Event, stateOn, beside, outcome}
 use Rattle.sframe.proofs.Ledger.{find-store, report-store}
 use Rattle.sframe.proofs.Refusals.{piece-refused, end-refused, check-refused}
-use Rattle.seal_frame.proofs.Seals.{SealStep, seal-step}
+use Rattle.judge_seal.proofs.Seals.{SealStep, seal-step}
 
 -- bytes that are a table are a sound store
 sound-bytes : (s : List ℕ) (rs : List KeyRecord) → Stored s rs → Octets s × (sound s ≡ true)

@@ -21,7 +21,7 @@ use Rattle.key_record.specs.Suites.{tagSize}
 use Rattle.store.specs.Store.{records, sound}
 use Rattle.store.specs.Table.{get}
 use Rattle.pair_log.specs.Report.{decimal, line, report}
-use Rattle.seal_frame.specs.Seal.{nextFrame, seal}
+use Rattle.judge_seal.specs.Seal.{nextFrame, seal}
 use Rattle.open_frame.specs.Open.{opening}
 use Rattle.pieces.specs.Calls.{checkEnd}
 use Rattle.begin_seal.specs.Begin.{sealBegin}

@@ -14,7 +14,7 @@ use Rattle.store_calls.specs.Calls.{make, remove, find}
 use Rattle.add_key.specs.Add.{add}
 use Rattle.store.specs.Cipher.{Cipher}
 use Rattle.pieces.specs.Calls.{Result, sealPiece, sealEnd, checkPiece, checkEnd}
-use Rattle.seal_frame.specs.Seal.{seal}
+use Rattle.judge_seal.specs.Seal.{seal}
 use Rattle.begin_seal.specs.Begin.{sealBegin}
 use Rattle.open_frame.specs.Open.{opening}
 use Rattle.begin_check.specs.Check.{checkBegin}

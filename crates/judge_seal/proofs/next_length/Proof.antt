@@ -3,9 +3,9 @@ use native.Mathlib.Omega.{arith}
 use borrow.Author.Needs.{needs}
 use Rattle.key_record.specs.Layout.{decode}
 use Rattle.key_record.proofs.KindLaws.{sends-held}
-use Rattle.seal_frame.proofs.SealSteps.{length-told, length-fits}
-use Rattle.seal_frame.proofs.next_length.Statement.{statement}
-use Rattle.seal_frame.proofs.next_length.Tie as tie
+use Rattle.judge_seal.proofs.NextFrame.{length-told, length-fits}
+use Rattle.judge_seal.proofs.next_length.Statement.{statement}
+use Rattle.judge_seal.proofs.next_length.Tie as tie
 
 -- ---- points of the program, each reached from a later one
 

@@ -1,7 +1,7 @@
 -- SPDX-License-Identifier: MIT
 -- What sealing does to the table and to the room. Assumes nothing.
 use mathlib.Core.Path.{_≡_, refl, sym, _∙_, ap, ap₂}
-use mathlib.Core.Bool.{Bool, true, false, not, false≢true}
+use mathlib.Core.Bool.{Bool, true, not, false≢true}
 use mathlib.Core.List.{List, [], _∷_}
 use Prim.Native.Nat.{ℕ, _+_, _<_, _≤_}
 use native.Mathlib.Omega.{arith}
@@ -25,8 +25,8 @@ use Rattle.store.proofs.Stores.{Stored, stored-sound, stored-records, Change, p
 use Rattle.store.proofs.Tables.{get-holds}
 use Rattle.answers.specs.Limits.{maxPlaintext, maxMetadata, tooLong}
 use Rattle.answers.proofs.Limits.{not-long}
-use Rattle.seal_frame.specs.Seal.{nextLength, nextFrame, sealCauses, causesOfSeal, sealAt, seal}
-use Rattle.seal_frame.specs.Frame.{frame}
+use Rattle.judge_seal.specs.Seal.{nextLength, nextFrame, sealCauses, causesOfSeal, sealAt, seal}
+use Rattle.judge_seal.specs.Frame.{frame}
 
 -- a sending record once its counter is taken
 abbrev pub next : SendingKey → KeyRecord

@@ -17,7 +17,7 @@ use Rattle.key_record.specs.Record.{ceiling, KeyRecord, isEmpty, isSending, sui
 use Rattle.store.specs.Store.{encodeAll, records, sound}
 use Rattle.key_record.specs.Suites.{tagSize}
 use Rattle.store.specs.Table.{get, put}
-use Rattle.seal_frame.specs.Frame.{frame}
+use Rattle.judge_seal.specs.Frame.{frame}
 
 -- The length of the frame that a sending record gives next: header, ciphertext, tag.
 -- plaintext is a length

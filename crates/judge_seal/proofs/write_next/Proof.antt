@@ -1,8 +1,8 @@
 -- SPDX-License-Identifier: MIT
 use borrow.Author.Needs.{needs}
-use Rattle.seal_frame.proofs.SealSteps.{header-has-room, header-written}
-use Rattle.seal_frame.proofs.write_next.Statement.{statement}
-use Rattle.seal_frame.proofs.write_next.Tie as tie
+use Rattle.judge_seal.proofs.NextFrame.{header-has-room, header-written}
+use Rattle.judge_seal.proofs.write_next.Statement.{statement}
+use Rattle.judge_seal.proofs.write_next.Tie as tie
 
 -- ---- points of the program, each reached from a later one
 

@@ -5,9 +5,9 @@ use Rattle.answers.proofs.Basics.{told-false, told-true}
 use Rattle.answers.proofs.Limits.{not-long}
 use mathlib.Core.Path.{sym, _∙_}
 use Rattle.key_record.specs.Layout.{decode}
-use Rattle.seal_frame.proofs.SealSteps.{judged-role, judged-counter, judged-long, judged-room, judged-done}
-use Rattle.seal_frame.proofs.judge.Statement.{statement}
-use Rattle.seal_frame.proofs.judge.Tie as tie
+use Rattle.judge_seal.proofs.Verdict.{judged-role, judged-counter, judged-long, judged-room, judged-done}
+use Rattle.judge_seal.proofs.judge.Statement.{statement}
+use Rattle.judge_seal.proofs.judge.Tie as tie
 
 -- ---- points of the program, each reached from a later one
 
