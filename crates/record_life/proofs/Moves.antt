@@ -31,8 +31,8 @@ use Rattle.judge_seal.proofs.Seals.{next, SealStep, seal-step}
 use Rattle.begin_seal.specs.Begin.{sealBegin}
 use Rattle.begin_seal.proofs.Begins.{BeginStep, begin-step}
 use Rattle.begin_check.proofs.Checks.{check-store}
-use Rattle.open_frame.specs.Open.{opening}
-use Rattle.open_frame.proofs.Opened.{OpenStep, open-step}
+use Rattle.judge_open.specs.Open.{opening}
+use Rattle.judge_open.proofs.Opened.{OpenStep, open-step}
 use Rattle.report_window.specs.Report.{report}
 use Rattle.change_epoch.specs.Epoch.{ofEpoch, withoutEpoch, changeEpoch}
 use Rattle.change_epoch.proofs.Epochs.{Swept, epoch-receives, EpochStep, epoch-step}

@@ -16,7 +16,7 @@ use Rattle.header.proofs.Laws.{header-begins}
 use Rattle.store.specs.Cipher.{Cipher}
 use Rattle.answers.proofs.Basics.{Two, yes′, no′, two}
 use Rattle.store.proofs.CipherLaws.{Laws, Usable}
-use Rattle.open_frame.specs.Open.{opening}
+use Rattle.judge_open.specs.Open.{opening}
 use Rattle.window.specs.Window.{seen, tooOld}
 use Rattle.judge_seal.specs.Frame.{frameWith, frame}
 use Rattle.sframe.specs.Promises.{kidOf, ctrOf, Begins, isSender, senders, OpenedTo, keyFrom, saltFrom, nonceOf, Holds, Frame, Pair, Kept}

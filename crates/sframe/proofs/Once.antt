@@ -30,8 +30,8 @@ use Rattle.judge_seal.proofs.Seals.{next, SealStep, seal-step}
 use Rattle.begin_seal.specs.Begin.{sealBegin}
 use Rattle.begin_seal.proofs.Begins.{BeginStep, begin-step}
 use Rattle.begin_check.proofs.Checks.{check-store}
-use Rattle.open_frame.specs.Open.{opening}
-use Rattle.open_frame.proofs.Opened.{OpenStep, open-step}
+use Rattle.judge_open.specs.Open.{opening}
+use Rattle.judge_open.proofs.Opened.{OpenStep, open-step}
 use Rattle.change_epoch.specs.Epoch.{ofEpoch, withoutEpoch, changeEpoch}
 use Rattle.change_epoch.proofs.Epochs.{Swept, EpochStep, epoch-step}
 use Rattle.sframe.specs.History.{Call, Add, Remove, Seal, Open, Report, Find, ChangeEpoch, Begin, Piece, End, CheckBegin, CheckPiece, CheckEnd, Typed, AllTyped, Sealing, Opening, Event, added, sealed, opened, other, event, onLine, onward, History, outcome, step, run, start}

@@ -23,8 +23,8 @@ use Rattle.judge_seal.specs.Seal.{sealAt, seal}
 use Rattle.begin_seal.specs.Begin.{sealBegin}
 use Rattle.begin_seal.proofs.Begins.{begin-refused, BeginStep, begin-step}
 use Rattle.begin_check.proofs.Checks.{check-store, check-begin-refused}
-use Rattle.open_frame.specs.Open.{openAt, opening}
-use Rattle.open_frame.proofs.Opened.{OpenStep, open-step}
+use Rattle.judge_open.specs.Open.{openAt, opening}
+use Rattle.judge_open.proofs.Opened.{OpenStep, open-step}
 use Rattle.report_window.specs.Report.{report}
 use Rattle.header.specs.Answers.{readKid, readCtr}
 use Rattle.header.specs.Header.{readHeader}

@@ -22,7 +22,7 @@ use Rattle.store.specs.Store.{records, sound}
 use Rattle.store.specs.Table.{get}
 use Rattle.pair_log.specs.Report.{decimal, line, report}
 use Rattle.judge_seal.specs.Seal.{nextFrame, seal}
-use Rattle.open_frame.specs.Open.{opening}
+use Rattle.judge_open.specs.Open.{opening}
 use Rattle.pieces.specs.Calls.{checkEnd}
 use Rattle.begin_seal.specs.Begin.{sealBegin}
 use Rattle.begin_check.specs.Check.{checkBegin}

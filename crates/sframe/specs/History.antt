@@ -16,7 +16,7 @@ use Rattle.store.specs.Cipher.{Cipher}
 use Rattle.pieces.specs.Calls.{Result, sealPiece, sealEnd, checkPiece, checkEnd}
 use Rattle.judge_seal.specs.Seal.{seal}
 use Rattle.begin_seal.specs.Begin.{sealBegin}
-use Rattle.open_frame.specs.Open.{opening}
+use Rattle.judge_open.specs.Open.{opening}
 use Rattle.begin_check.specs.Check.{checkBegin}
 use Rattle.report_window.specs.Report.{report}
 use Rattle.change_epoch.specs.Epoch.{changeEpoch}

@@ -10,7 +10,7 @@ ghost use Rattle.store.specs.Sframe.{sframe};
 ghost use Rattle.key_record.specs.declared.Role.the-variants.{Sending, Receiving};
 ghost use Rattle.add_key.specs.Add.{add};
 ghost use Rattle.judge_seal.specs.Seal.{seal};
-ghost use Rattle.open_frame.specs.Open.{opening};
+ghost use Rattle.judge_open.specs.Open.{opening};
 ghost use Rattle.begin_seal.specs.Begin.{sealBegin};
 ghost use Rattle.begin_check.specs.Check.{checkBegin};
 ghost use Rattle.pieces.specs.Calls.{sealPiece, sealEnd, checkPiece, checkEnd};

@@ -1,3 +1,3 @@
 -- SPDX-License-Identifier: MIT
-mod OpenSteps
 pub mod Opened
+pub mod Steps

@@ -24,7 +24,7 @@ use Rattle.store.specs.Store.{encodeAll}
 use Rattle.store.specs.Table.{get, put}
 use Rattle.store.proofs.Stores.{Stored, stored-sound, stored-records, Change, put-change, get-fit}
 use Rattle.store.proofs.Tables.{get-holds}
-use Rattle.open_frame.specs.Open.{plainOf, decrypted, openCauses, causesOfOpen, openAt, opening}
+use Rattle.judge_open.specs.Open.{plainOf, decrypted, openCauses, causesOfOpen, openAt, opening}
 
 -- an Open that answered 0: what it found, and what it left
 pub record Opened (rs : List KeyRecord) (kid ctr : ℕ) (o : Outcome) (r : ReceivingKey) (w : Window) : Type 0 where

@@ -1,7 +1,7 @@
 -- SPDX-License-Identifier: MIT
-use Rattle.open_frame.proofs.OpenSteps.{room-short, room-enough}
-use Rattle.open_frame.proofs.room_for.Statement.{statement}
-use Rattle.open_frame.proofs.room_for.Tie as tie
+use Rattle.judge_open.proofs.Steps.{room-short, room-enough}
+use Rattle.judge_open.proofs.room_for.Statement.{statement}
+use Rattle.judge_open.proofs.room_for.Tie as tie
 
 returns : tie.Need-returns
 returns c = room-short _ _ (c .if1 .taken)

@@ -3,8 +3,8 @@
 use Prim.Native.Nat.{ℕ}
 use lib.Dec.{ltb}
 use Rattle.octets.specs.Octets.{pick}
-use Rattle.open_frame.specs.declared.Room.{Room}
-use Rattle.open_frame.specs.declared.Room.the-variants.{Enough, Short}
+use Rattle.judge_open.specs.declared.Room.{Room}
+use Rattle.judge_open.specs.declared.Room.the-variants.{Enough, Short}
 
 -- Whether a room of that length takes n bytes.
 unfoldable pub roomFor : ℕ → ℕ → Room

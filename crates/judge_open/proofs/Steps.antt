@@ -42,11 +42,11 @@ use Rattle.store.proofs.Stores.{sound-stored, kids-apart}
 use Rattle.store.proofs.Tables.{put-at}
 use Rattle.window.specs.Window.{seen, tooOld}
 use Rattle.window.specs.declared.Window.{Window}
-use Rattle.open_frame.specs.Open.{plainOf, plainLength, decrypted, openCauses, causesOfOpen, openAt, opening}
-use Rattle.open_frame.specs.inner.Counters.{counterAnswer}
-use Rattle.open_frame.specs.inner.Rooms.{roomFor}
-use Rattle.open_frame.specs.declared.Room.{Room}
-use Rattle.open_frame.specs.declared.Room.the-variants.{Enough, Short}
+use Rattle.judge_open.specs.Open.{plainOf, plainLength, decrypted, openCauses, causesOfOpen, openAt, opening}
+use Rattle.judge_open.specs.inner.Counters.{counterAnswer}
+use Rattle.judge_open.specs.inner.Rooms.{roomFor}
+use Rattle.judge_open.specs.declared.Room.{Room}
+use Rattle.judge_open.specs.declared.Room.the-variants.{Enough, Short}
 
 -- ---- decryption with a held record
 

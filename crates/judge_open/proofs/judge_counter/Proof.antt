@@ -3,9 +3,9 @@ use mathlib.Core.Path.{sym, _∙_, ap}
 use borrow.Author.Needs.{needs}
 use Rattle.window.specs.Window.{seen, tooOld}
 use Rattle.window.specs.declared.Window.{Window}
-use Rattle.open_frame.proofs.OpenSteps.{counter-seen, counter-old, counter-new}
-use Rattle.open_frame.proofs.judge_counter.Statement.{statement}
-use Rattle.open_frame.proofs.judge_counter.Tie as tie
+use Rattle.judge_open.proofs.Steps.{counter-seen, counter-old, counter-new}
+use Rattle.judge_open.proofs.judge_counter.Statement.{statement}
+use Rattle.judge_open.proofs.judge_counter.Tie as tie
 
 -- ---- points of the program, each reached from a later one
 
