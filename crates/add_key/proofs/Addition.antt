@@ -11,11 +11,10 @@ use Rattle.answers.specs.Limits.{baseKeyLeast, baseKeyMost}
 use Rattle.suites.specs.Suites.{numberOf}
 use Rattle.suites.specs.declared.sizes.Suite.{Suite}
 use Rattle.suites.proofs.Laws.{number-known}
-use Rattle.store.specs.Calls.{stored}
 use Rattle.store.specs.Cipher.{Cipher}
 use Rattle.key_record.specs.Record.{empty, isEmpty, holds}
 use Rattle.store.specs.Sframe.{keyFor, saltFor, sframe}
-use Rattle.store.specs.Store.{encodeAll, records, sound}
+use Rattle.store.specs.Store.{encodeAll, records, sound, stored}
 use Rattle.key_record.specs.Suites.{isSuite}
 use Rattle.store.specs.Table.{get, insert, full}
 use Rattle.key_record.specs.inner.Rows.{fresh}

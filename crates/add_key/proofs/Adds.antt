@@ -12,10 +12,9 @@ use Rattle.octets.specs.Octets.{Octets, both}
 use Rattle.answers.specs.Answers.{storeInvalid, suiteUnknown, sendingBarred, baseKeySize, kidHeld, storeFull, _if_, Outcome}
 use Rattle.answers.specs.Limits.{baseKeyLeast, baseKeyMost}
 use Rattle.answers.proofs.Basics.{Settled, success, refusal, settle}
-use Rattle.store.specs.Calls.{stored}
 use Rattle.store.specs.Cipher.{Cipher}
 use Rattle.key_record.specs.Record.{KeyRecord, empty, isEmpty, holds}
-use Rattle.store.specs.Store.{encodeAll}
+use Rattle.store.specs.Store.{encodeAll, stored}
 use Rattle.key_record.specs.Suites.{isSuite}
 use Rattle.store.specs.Table.{get, insert, full}
 use Rattle.key_record.specs.declared.Role.{Role}

@@ -12,10 +12,9 @@ use Rattle.answers.specs.Answers.{storeInvalid, suiteUnknown, sendingBarred, ba
 use Rattle.answers.specs.Limits.{baseKeyLeast, baseKeyMost}
 use Rattle.suites.specs.Suites.{numberOf}
 use Rattle.suites.specs.declared.sizes.Suite.the-variants.{Ctr32}
-use Rattle.store.specs.Calls.{stored}
 use Rattle.store.specs.Cipher.{Cipher}
 use Rattle.key_record.specs.Record.{KeyRecord, sending, receiving, isEmpty}
-use Rattle.store.specs.Store.{encodeAll, records, sound}
+use Rattle.store.specs.Store.{encodeAll, records, sound, stored}
 use Rattle.key_record.specs.Suites.{isSuite}
 use Rattle.window.specs.Window.{fresh}
 use Rattle.store.specs.Table.{get, insert, full}

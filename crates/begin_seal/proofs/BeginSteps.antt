@@ -32,7 +32,7 @@ use Rattle.store.specs.declared.Place.{Place}
 use Rattle.store.specs.declared.Place.the-variants.{At, Nowhere}
 use Rattle.store.proofs.Stores.{sound-stored, kids-apart, get-fit}
 use Rattle.store.proofs.Tables.{put-at}
-use Rattle.seal_frame.specs.Seal.{sealCauses}
+use Rattle.judge_seal.specs.Seal.{sealCauses}
 use Rattle.begin_state.specs.Begin.{firstState}
 use Rattle.begin_seal.specs.Begin.{beginCauses, beginAt, sealBegin}
 use Rattle.begin_seal.proofs.Begins.{success-of}

@@ -24,8 +24,8 @@ use Rattle.store.specs.Store.{encodeAll, records, sound}
 use Rattle.store.specs.Table.{get, put}
 use Rattle.store.proofs.Stores.{Stored, stored-sound, stored-records, Change, put-change, get-fit}
 use Rattle.store.proofs.Tables.{get-holds}
-use Rattle.seal_frame.specs.Seal.{sealCauses}
-use Rattle.seal_frame.proofs.Seals.{next, holds-kid, next-holds, next-fit}
+use Rattle.judge_seal.specs.Seal.{sealCauses}
+use Rattle.judge_seal.proofs.Seals.{next, holds-kid, next-holds, next-fit}
 use Rattle.begin_state.specs.Begin.{firstState}
 use Rattle.begin_state.proofs.Refused.{refused-on}
 use Rattle.begin_seal.specs.Begin.{beginCauses, beginAt, sealBegin}

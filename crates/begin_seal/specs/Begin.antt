@@ -17,7 +17,7 @@ use Rattle.store.specs.Cipher.{Cipher}
 use Rattle.key_record.specs.Record.{KeyRecord, counterOf, advanced}
 use Rattle.store.specs.Store.{encodeAll, records, sound}
 use Rattle.store.specs.Table.{get, put}
-use Rattle.seal_frame.specs.Seal.{sealCauses}
+use Rattle.judge_seal.specs.Seal.{sealCauses}
 
 -- The causes of a Seal, with room for the header alone; then the running state's own length.
 -- held is the record that holds the KID; metadata, announced, room and state are lengths

@@ -36,7 +36,7 @@ fn header_length(row: &[u8], kid: Kid) -> usize
     ensures { λ r. ⌜ r ≡ length (header (kid .0) (counterOf (decode (now (row .entry))))) ⌝ }
 {
     let mut head = [0u8; MAX_HEADER];
-    seal_frame::write_next(row, kid, &mut head)
+    judge_seal::write_next(row, kid, &mut head)
 }
 
 // The number of the first cause for which a held record refuses to begin; 0 where there is none.
@@ -78,7 +78,7 @@ fn write_line(
     ensures { λ _. ⌜ now (state .exit) ≡ pasted (now (state .entry)) 0 (firstState sframe sealing (decode (now (row .entry))) (counterOf (decode (now (row .entry)))) announced (header (kid .0) (counterOf (decode (now (row .entry)))) ++ now (metadata .entry))) ⌝ }
 {
     let mut head = [0u8; MAX_HEADER];
-    let n = seal_frame::write_next(row, kid, &mut head);
+    let n = judge_seal::write_next(row, kid, &mut head);
     let ctr = key_record::row::next_of(row);
     begin_state::write_first(row, SEALING, ctr, &head[0..n], metadata, announced, state);
     octets::copy(room, &head[0..n]);

@@ -19,7 +19,7 @@ use Rattle.key_record.specs.Layout.{recordSize, encode, decode}
 use Rattle.key_record.specs.Record.{KeyRecord, empty, isReceiving, kidOf}
 use Rattle.store.specs.Store.{encodeAll, records, sound}
 use Rattle.store.specs.inner.Places.{Within}
-use Rattle.store.proofs.Keys.{zeros}
+use Rattle.store.proofs.Empties.{zeros}
 use Rattle.store.proofs.Moves.{encode-append, mid-last}
 use Rattle.store.proofs.Places.{place-row, place-bytes}
 use Rattle.store.proofs.Stores.{AllFit, encode-all-length, sound-stored, stored-length}

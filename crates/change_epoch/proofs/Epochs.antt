@@ -13,10 +13,9 @@ use Rattle.answers.proofs.Basics.{Two, yes′, no′, two, both-true, Settled, 
 use Rattle.group.specs.Group.{epochIn}
 use Rattle.key_record.specs.Record.{KeyRecord, empty, receiving, isEmpty, isReceiving, kidOf, holds, inOrder}
 use Rattle.key_record.proofs.KindLaws.{receives-held}
-use Rattle.store.specs.Calls.{stored}
-use Rattle.store.specs.Store.{encodeAll, records}
+use Rattle.store.specs.Store.{encodeAll, records, stored}
 use Rattle.store.specs.Table.{get, orderedFrom, ordered}
-use Rattle.store.proofs.Keys.{empties-from, empties-get}
+use Rattle.store.proofs.Empties.{empties-from, empties-get}
 use Rattle.store.proofs.Order.{holds-kid, from-cons, cons-from, from-past, ordered-rest, none-behind}
 use Rattle.store.proofs.Stores.{AllFit, Table, changed-table, Stored, stored-sound, stored-records}
 use Rattle.store.proofs.Tables.{get-here, get-there}

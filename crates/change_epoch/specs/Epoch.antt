@@ -11,8 +11,7 @@ use Rattle.octets.specs.Octets.{pick, both}
 use Rattle.answers.specs.Answers.{storeInvalid, groupPartTooLarge, groupKidTooLong, Cause, _if_, first, Outcome, settled}
 use Rattle.group.specs.Group.{kidBits, epochIn}
 use Rattle.key_record.specs.Record.{KeyRecord, empty, isReceiving, kidOf}
-use Rattle.store.specs.Calls.{stored}
-use Rattle.store.specs.Store.{encodeAll, records, sound}
+use Rattle.store.specs.Store.{encodeAll, records, sound, stored}
 
 -- A receiving key of that epoch: its KID has the bits as its low E bits.
 unfoldable pub ofEpoch : (E bits : ℕ) → KeyRecord → Bool

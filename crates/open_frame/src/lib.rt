@@ -12,16 +12,12 @@ ghost use Rattle.answers.specs.Limits.{maxPlaintext, maxMetadata};
 ghost use Rattle.suites.specs.Suites.{Nt};
 ghost use Rattle.suites.specs.Derivation.{nonce};
 ghost use Rattle.suites.specs.Aead.{decrypt, isPlain, roomAfter};
-ghost use Rattle.key_record.specs.Layout.{recordSize, decode};
-ghost use Rattle.key_record.specs.Record.{isEmpty, isReceiving, suiteOf, saltOf, keyOf, windowOf};
+ghost use Rattle.key_record.specs.Layout.{decode};
+ghost use Rattle.key_record.specs.Record.{isEmpty, isReceiving, suiteOf, saltOf, keyOf};
 ghost use Rattle.store.specs.Sframe.{sframe};
 ghost use Rattle.key_record.specs.inner.Rows.{Row, Numbered};
-ghost use Rattle.open_frame.specs.Open.{openAt, opening};
-ghost use Rattle.open_frame.specs.inner.Counters.{counterAnswer};
-ghost use Rattle.open_frame.specs.inner.Rooms.{roomFor};
-use answers::ALREADY_OPENED;
+ghost use Rattle.judge_open.specs.Open.{openAt, opening};
 use answers::Answer;
-use answers::COUNTER_TOO_OLD;
 use answers::DONE;
 use answers::FRAME_SHORT;
 use answers::HEADER_INVALID;
@@ -36,14 +32,9 @@ use answers::too_long;
 use header::Ctr;
 use header::Kid;
 use header::Reading;
+use judge_open::Room;
 use store::Place;
 use suites::Suite;
-
-// Whether a room takes so many bytes.
-enum Room {
-    Enough(usize),
-    Short,
-}
 
 // Decrypts what follows the first n bytes of a frame with the key and salt of a receiving record.
 fn decrypt_with(
@@ -74,31 +65,6 @@ fn decrypt_with(
     )
 }
 
-// Whether a room of that length takes n bytes.
-fn room_for(room: usize, n: usize) -> Room
-    ensures { λ r. ⌜ r ≡ roomFor room n ⌝ }
-{
-    if room < n {
-        return Room::Short;
-    }
-    Room::Enough(n)
-}
-
-// What the window of a receiving record has against a counter: 14, 15, or nothing, which is 0.
-fn judge_counter(row: &[u8], ctr: Ctr) -> u32
-    requires { ⌜ (length (now row) ≡ recordSize) × (isReceiving (decode (now row)) ≡ true) ⌝ }
-    ensures { λ r. ⌜ r ≡ counterAnswer (windowOf (decode (now (row .entry)))) (ctr .0) ⌝ }
-{
-    let w = key_record::row::window_of(row);
-    if window::is_seen(w, ctr.0) {
-        return ALREADY_OPENED;
-    }
-    if window::is_too_old(w, ctr.0) {
-        return COUNTER_TOO_OLD;
-    }
-    DONE
-}
-
 // Opens a frame, whose header of n bytes has been read, with the record that holds its KID.
 fn open_with(
     row: &[u8],
@@ -126,10 +92,10 @@ fn open_with(
     if too_long(m, metadata.len()) {
         return refused(INPUT_TOO_LONG);
     }
-    let Room::Enough(length) = room_for(room.len(), m) else {
+    let Room::Enough(length) = judge_open::room_for(room.len(), m) else {
         return refused(ROOM_SHORT);
     };
-    let number = judge_counter(row, ctr);
+    let number = judge_open::judge_counter(row, ctr);
     if number != DONE {
         return refused(number);
     }

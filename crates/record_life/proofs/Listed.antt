@@ -27,9 +27,9 @@ use Rattle.store.specs.Sframe.{sframe}
 use Rattle.store.specs.Store.{records, sound}
 use Rattle.store.specs.Table.{get}
 use Rattle.store.proofs.Stores.{sound-stored}
-use Rattle.seal_frame.specs.Frame.{frameWith, frame}
-use Rattle.seal_frame.specs.Seal.{seal}
-use Rattle.seal_frame.proofs.Seals.{SealStep, seal-step}
+use Rattle.judge_seal.specs.Frame.{frameWith, frame}
+use Rattle.judge_seal.specs.Seal.{seal}
+use Rattle.judge_seal.proofs.Seals.{SealStep, seal-step}
 use Rattle.begin_state.specs.Begin.{firstState}
 use Rattle.begin_seal.specs.Begin.{sealBegin}
 use Rattle.begin_seal.proofs.Begins.{BeginStep, begin-step}

@@ -16,7 +16,7 @@ use Rattle.key_record.specs.Record.{ceiling, SendingKey, RetiredKey, KeyRecord,
 use Rattle.key_record.proofs.Codec.{Fit}
 use Rattle.store.specs.Cipher.{Cipher}
 use Rattle.store.proofs.CipherLaws.{Laws}
-use Rattle.seal_frame.proofs.Seals.{next}
+use Rattle.judge_seal.proofs.Seals.{next}
 use Rattle.cipher_inputs.specs.Blocks.{Off, Once}
 use Rattle.cipher_inputs.specs.Inputs.{keyInputs, sealingInputs}
 use Rattle.cipher_inputs.proofs.Blocks.{Every, every-append, every-map, off-every, once-append, blockNonce, blockCount, Of, lowest, sealing-of, sealing-once, key-once}

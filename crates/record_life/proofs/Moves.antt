@@ -17,22 +17,22 @@ use Rattle.key_record.specs.inner.Rows.{kept}
 use Rattle.key_record.specs.declared.Role.{Role}
 use Rattle.key_record.specs.declared.Role.the-variants.{Sending, Receiving}
 use Rattle.window.specs.Window.{moved}
-use Rattle.store.specs.Calls.{remove, find}
+use Rattle.store_calls.specs.Calls.{remove, find}
 use Rattle.store.specs.Cipher.{Cipher}
 use Rattle.store.specs.Store.{records}
 use Rattle.store.specs.Table.{get, put, insert, without}
 use Rattle.store.proofs.CipherLaws.{Laws}
-use Rattle.store.proofs.Keys.{RemoveStep, remove-step}
+use Rattle.store_calls.proofs.Keys.{RemoveStep, remove-step}
 use Rattle.store.proofs.Stores.{Stored, Change, stored-records}
 use Rattle.add_key.specs.Add.{add, added as addedRecord}
 use Rattle.add_key.proofs.Adds.{AddStep, add-step}
-use Rattle.seal_frame.specs.Seal.{seal}
-use Rattle.seal_frame.proofs.Seals.{next, SealStep, seal-step}
+use Rattle.judge_seal.specs.Seal.{seal}
+use Rattle.judge_seal.proofs.Seals.{next, SealStep, seal-step}
 use Rattle.begin_seal.specs.Begin.{sealBegin}
 use Rattle.begin_seal.proofs.Begins.{BeginStep, begin-step}
 use Rattle.begin_check.proofs.Checks.{check-store}
-use Rattle.open_frame.specs.Open.{opening}
-use Rattle.open_frame.proofs.Opened.{OpenStep, open-step}
+use Rattle.judge_open.specs.Open.{opening}
+use Rattle.judge_open.proofs.Opened.{OpenStep, open-step}
 use Rattle.report_window.specs.Report.{report}
 use Rattle.change_epoch.specs.Epoch.{ofEpoch, withoutEpoch, changeEpoch}
 use Rattle.change_epoch.proofs.Epochs.{Swept, epoch-receives, EpochStep, epoch-step}

@@ -6,13 +6,14 @@ use mathlib.Core.List.{List, [], _∷_, _++_}
 use Prim.Native.Nat.{ℕ}
 use Rattle.octets.specs.Octets.{Octets}
 use Rattle.key_record.specs.Record.{KeyRecord, empty}
-use Rattle.store.specs.Calls.{make}
+use Rattle.store_calls.specs.Calls.{make}
 use Rattle.store.specs.Cipher.{Cipher}
 use Rattle.store.specs.Sframe.{sframe}
 use Rattle.store.specs.Store.{records, sound}
 use Rattle.store.specs.Table.{get}
 use Rattle.store.proofs.CipherLaws.{Laws}
-use Rattle.store.proofs.Keys.{make-stored, empties-get}
+use Rattle.store_calls.proofs.Keys.{make-stored}
+use Rattle.store.proofs.Empties.{empties-get}
 use Rattle.store.proofs.Stores.{Stored, sound-stored}
 use Rattle.sframe.specs.History.{Call, AllTyped, History, outcome, step, start}
 use Rattle.sframe.proofs.Suites.{suites-laws}

@@ -10,8 +10,7 @@ use Rattle.octets.specs.Octets.{pick}
 use Rattle.answers.specs.Answers.{done, storeInvalid, kidMissing, roleRefused, Cause, _if_, first, Outcome, settled}
 use Rattle.window.specs.Window.{opened}
 use Rattle.key_record.specs.Record.{KeyRecord, isEmpty, isReceiving, windowOf}
-use Rattle.store.specs.Calls.{stored}
-use Rattle.store.specs.Store.{records, sound}
+use Rattle.store.specs.Store.{records, sound, stored}
 use Rattle.store.specs.Table.{get}
 
 -- held is the record that holds the KID

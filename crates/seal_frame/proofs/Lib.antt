@@ -1,3 +1,2 @@
 -- SPDX-License-Identifier: MIT
 mod SealSteps
-pub mod Seals

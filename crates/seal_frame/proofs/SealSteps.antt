@@ -6,111 +6,42 @@ use mathlib.Core.List.{List, [], _++_, append-assoc}
 use Prim.Native.Nat.{ℕ, zero, suc, _+_, _-_, _<_, _≤_, min}
 use native.Mathlib.Nat.{sub-zero}
 use native.Mathlib.Omega.{arith}
-use lib.Dec.{eqb, ltb, leb}
+use lib.Dec.{eqb, ltb}
 use lib.ListN.{length, getD, set, take, drop, length-append, length-take, length-drop, take-append-drop}
 use lib.Seq.{take-at, drop-at, drop-drop}
-use borrow.Author.Tests.{le-leb, lt-ltb, le-ltb, eqb-false, ltb-true, ltb-false, not-true, not-false}
+use borrow.Author.Tests.{lt-ltb, le-ltb, eqb-false, ltb-true, ltb-false, not-true, not-false}
 use borrow.Rule.Slice.PartMut.{putMid}
 use Rattle.octets.specs.Octets.{Octets, pasted}
 use Rattle.octets.proofs.Laws.{part-from, lent-from, pasted-front, pasted-from}
-use Rattle.header.specs.Header.{maxHeader, header, writeHeader}
-use Rattle.header.specs.Answers.{roomShort}
+use Rattle.header.specs.Header.{maxHeader, header}
 use Rattle.header.proofs.Laws.{header-size}
-use Rattle.header.specs.declared.Written.{Written}
-use Rattle.header.specs.declared.Written.the-variants.{Length, NoRoom}
-use Rattle.answers.specs.Answers.{done, storeInvalid, kidMissing, roleRefused, counterSpent, inputTooLong, first, Outcome, settled}
-use Rattle.answers.specs.Limits.{maxPlaintext, maxMetadata, tooLong}
+use Rattle.answers.specs.Answers.{done, storeInvalid, kidMissing, first, Outcome, settled}
+use Rattle.answers.specs.Limits.{maxPlaintext, maxMetadata}
 use Rattle.answers.proofs.Basics.{Two, yes′, no′, two, told-false, passes, settled-done, settled-refused, Leaves, leaves}
 use Rattle.answers.proofs.Limits.{not-long}
 use Rattle.suites.specs.Suites.{Nt}
-use Rattle.suites.specs.inner.Sizes.{maxNt}
 use Rattle.suites.specs.Derivation.{nonce}
 use Rattle.suites.specs.Aead as Aead
 use Rattle.suites.specs.declared.sizes.Suite.{Suite}
 use Rattle.suites.proofs.Laws as Suites
 use Rattle.key_record.specs.Layout.{decode}
 use Rattle.key_record.specs.Record.{ceiling, KeyRecord, empty, isEmpty, isSending, suiteOf, saltOf, keyOf, counterOf, advanced}
-use Rattle.store.specs.Sframe.{encryptBy, sframe}
+use Rattle.store.specs.Sframe.{sframe}
 use Rattle.store.specs.Store.{encodeAll, records, sound}
-use Rattle.key_record.specs.Suites.{tagSize}
 use Rattle.store.specs.Table.{get, put, apart, FoundIn}
 use Rattle.key_record.specs.inner.Rows.{Numbered, counterLeft}
 use Rattle.store.specs.inner.Places.{RowOf}
 use Rattle.store.specs.declared.Place.{Place}
 use Rattle.store.specs.declared.Place.the-variants.{At, Nowhere}
 use Rattle.key_record.proofs.Codec.{Fit}
-use Rattle.key_record.proofs.KindLaws.{sends-held, fit-counter, holds-some}
+use Rattle.key_record.proofs.KindLaws.{fit-counter, holds-some}
 use Rattle.store.proofs.Stores.{sound-stored, kids-apart, get-fit}
-use Rattle.key_record.proofs.Suites.{tag-named}
 use Rattle.store.proofs.Tables.{put-at}
-use Rattle.seal_frame.specs.Frame.{frameWith, frame}
-use Rattle.seal_frame.specs.Seal.{nextLength, sealCauses, causesOfSeal, nextFrame, sealAt, seal}
+use Rattle.judge_seal.specs.Seal.{nextLength, sealCauses, causesOfSeal, nextFrame, sealAt, seal}
+use Rattle.judge_seal.proofs.NextFrame.{length-told, body, next-is}
 
--- ---- the header of the next frame
+-- ---- what holds of a record where no cause applies
 
-length-is : (a b : ℕ) → Length a ≡ Length b → a ≡ b
-length-is a b e = cc
-
-module _ (out : List ℕ) (kid v : ℕ) (w : Written) (h : maxHeader ≤ length out) (most : length (header kid v) ≤ maxHeader) (a : w ≡ writeHeader kid v 0 out .answer) where
-  fits-in : leb (0 + length (header kid v)) (length out) ≡ true
-  fits-in = le-leb (0 + length (header kid v)) (length out) (omega (arith, most))
-
-  pub header-has-room : w ≡ NoRoom → ⊥
-  unfolding writeHeader
-  header-has-room u =
-      let m : Length (length (header kid v)) ≡ NoRoom = (rw fits-in at (sym a)) ∙ u in
-      let z : _≡_ {A = ℕ} 0 1 = cc in
-      omega arith
-
-  pub header-written : (ctr n : ℕ) (x : List ℕ) → v ≡ ctr → w ≡ Length n → x ≡ writeHeader kid v 0 out .room
-      → ((n ≡ length (header kid ctr)) × (n ≤ maxHeader)) × (x ≡ header kid ctr ++ drop n out)
-  unfolding writeHeader
-  header-written ctr n x e u b =
-      let s : n ≡ length (header kid v) = length-is n (length (header kid v)) (sym u ∙ rw fits-in at a) in
-      let q : x ≡ header kid v ++ drop (length (header kid v)) out = rw fits-in at b ∙ pasted-front out (header kid v) in
-      ((s ∙ ap (λ (c : ℕ). length (header kid c)) e, omega (arith, most)), q ∙ ap₂ (λ (c i : ℕ). header kid c ++ drop i out) e (sym s))
-
--- ---- the length of the next frame
-
-pub length-told : (held : KeyRecord) (kid plaintext n nt : ℕ) (s : Suite) → Numbered s (suiteOf held) → nt ≡ Nt s → n ≡ length (header kid (counterOf held))
-    → n + (plaintext + nt) ≡ nextLength held kid plaintext
-unfolding nextLength
-length-told held kid plaintext n nt s f size head = ap₂ (λ (a b : ℕ). a + (plaintext + b)) head (size ∙ sym (tag-named (suiteOf held) s f))
-
-pub length-fits : (plaintext n nt : ℕ) (s : Suite) → plaintext ≤ maxPlaintext → n ≤ maxHeader → nt ≡ Nt s → n + (plaintext + nt) ≤ maxHeader + (maxPlaintext + maxNt)
-length-fits plaintext n nt s p h e = let m = Suites.Nt-most s in omega arith
-
--- ---- the causes
-
-module _ (held : KeyRecord) (kid metadata plaintext room : ℕ) where
-  pub judged-role : isEmpty held ≡ false → isSending held ≡ false → roleRefused ≡ first (causesOfSeal true held kid metadata plaintext 0 room)
-  unfolding causesOfSeal sealCauses first
-  judged-role e d = rw (e, d)
-
-  module _ (s : isSending held ≡ true) (b : Bool) (e : b ≡ not (eqb (counterOf held) ceiling)) where
-    pub judged-counter : not b ≡ true → counterSpent ≡ first (causesOfSeal true held kid metadata plaintext 0 room)
-    unfolding causesOfSeal sealCauses first
-    judged-counter h = rw (sends-held held s, s, not-false (eqb (counterOf held) ceiling) (sym e ∙ not-true b h))
-
-    module _ (left : not b ≡ false) where
-      unspent : eqb (counterOf held) ceiling ≡ false
-      unspent = not-true (eqb (counterOf held) ceiling) (sym e ∙ not-false b left)
-
-      module _ (t : Bool) (long : t ≡ tooLong plaintext metadata) where
-        pub judged-long : t ≡ true → inputTooLong ≡ first (causesOfSeal true held kid metadata plaintext 0 room)
-        unfolding causesOfSeal sealCauses first
-        judged-long h = rw (sends-held held s, s, unspent, sym long ∙ h)
-
-        module _ (short : t ≡ false) (n : ℕ) (size : n ≡ nextLength held kid plaintext) where
-          pub judged-room : room < n → roomShort ≡ first (causesOfSeal true held kid metadata plaintext 0 room)
-          unfolding causesOfSeal sealCauses first
-          judged-room h = rw (sends-held held s, s, unspent, sym long ∙ short, ← size, lt-ltb room (0 + n) (omega arith))
-
-          pub judged-done : n ≤ room → done ≡ first (causesOfSeal true held kid metadata plaintext 0 room)
-          unfolding causesOfSeal sealCauses first
-          judged-done h = rw (sends-held held s, s, unspent, sym long ∙ short, ← size, le-ltb room (0 + n) (omega arith))
-
--- what holds of a record where no cause applies
 pub record Clear (held : KeyRecord) (kid metadata plaintext room : ℕ) : Type 0 where
   pub sends : isSending held ≡ true
   pub counter-left : counterLeft held ≡ true
@@ -138,16 +69,9 @@ pub body-is : (s : Suite) (held : KeyRecord) (out key salt iv h metadata p : Lis
     → out ≡ Aead.encrypt s key iv (h ++ metadata) p → out ≡ Aead.encrypt s (keyOf held) (nonce (saltOf held) (counterOf held)) (h ++ metadata) p
 body-is s held out key salt iv h metadata p v a b e i q = q ∙ ap₂ (λ (k x : List ℕ). Aead.encrypt s k x (h ++ metadata) p) a (i ∙ ap₂ nonce b e)
 
-body : Suite → KeyRecord → List ℕ → List ℕ → List ℕ → List ℕ
-body s held h metadata p = Aead.encrypt s (keyOf held) (nonce (saltOf held) (counterOf held)) (h ++ metadata) p
-
 module _ (held : KeyRecord) (kid : ℕ) (metadata plaintext room : List ℕ) (c : Clear held kid (length metadata) (length plaintext) (length room)) (s : Suite) (found : Numbered s (suiteOf held)) where
   abbrev hd : List ℕ
   hd = header kid (counterOf held)
-
-  next-is : nextFrame sframe held kid metadata plaintext ≡ hd ++ body s held hd metadata plaintext
-  unfolding nextFrame frame frameWith encryptBy body
-  next-is = rw found
 
   body-size : length (body s held hd metadata plaintext) ≡ length plaintext + Nt s
   unfolding body
@@ -170,7 +94,7 @@ module _ (held : KeyRecord) (kid : ℕ) (metadata plaintext room : List ℕ) (c 
     body-room end q e k = let h = frame-inside in simp (length-take, length-drop) (omega arith)
 
     pub frame-length : n + (length plaintext + nt) ≡ length (nextFrame sframe held kid metadata plaintext)
-    frame-length = rw (next-is, length-append, body-size, long, size)
+    frame-length = rw (next-is held kid metadata plaintext s found, length-append, body-size, long, size)
 
     pub frame-written : (end : ℕ) (q out x : List ℕ) → end ≡ n + (length plaintext + nt) → q ≡ take (n - 0) head ++ drop (length (take (n - 0) head)) room
         → out ≡ Aead.encrypt s (keyOf held) (nonce (saltOf held) (counterOf held)) (take (n - 0) head ++ metadata) plaintext
@@ -187,7 +111,7 @@ module _ (held : KeyRecord) (kid : ℕ) (metadata plaintext room : List ℕ) (c 
         ∙ ap₂ (λ (f t : List ℕ). f ++ (out ++ t)) a r
         ∙ ap (λ (t : List ℕ). hd ++ (t ++ drop end room)) w′
         ∙ sym (append-assoc hd (body s held hd metadata plaintext) (drop end room))
-        ∙ ap (λ (t : List ℕ). t ++ drop end room) (sym next-is)
+        ∙ ap (λ (t : List ℕ). t ++ drop end room) (sym (next-is held kid metadata plaintext s found))
 
 -- ---- Seal
 

@@ -1,80 +1,30 @@
 // SPDX-License-Identifier: MIT
 // Sealing a frame. The causes are tried in the order 1, 6, 7, 8, 9, 12.
 use answers::Answer;
-use answers::COUNTER_SPENT;
 use answers::DONE;
-use answers::INPUT_TOO_LONG;
 use answers::KID_MISSING;
-use answers::ROLE_REFUSED;
-use answers::ROOM_SHORT;
 use answers::STORE_INVALID;
 use answers::refused;
-use answers::too_long;
 use header::Kid;
 use header::MAX_HEADER;
-use header::Written;
 use store::Place;
 use suites::sizes::Suite;
 ghost use mathlib.Core.Path.{_≡_};
-ghost use mathlib.Core.Bool.{true, false};
+ghost use mathlib.Core.Bool.{true};
 ghost use mathlib.Core.List.{_++_};
 ghost use Prim.Native.Nat.{_+_, _≤_};
 ghost use lib.ListN.{length, drop};
-ghost use Rattle.header.specs.Header.{maxHeader, header};
+ghost use Rattle.header.specs.Header.{maxHeader};
 ghost use Rattle.answers.specs.Answers.{done, first};
 ghost use Rattle.answers.specs.Limits.{maxPlaintext, maxMetadata};
 ghost use Rattle.suites.specs.Suites.{Nt};
 ghost use Rattle.suites.specs.Derivation.{nonce};
 ghost use Rattle.suites.specs.Aead.{encrypt};
 ghost use Rattle.key_record.specs.Layout.{decode};
-ghost use Rattle.key_record.specs.Record.{isEmpty, isSending, suiteOf, saltOf, keyOf, counterOf};
+ghost use Rattle.key_record.specs.Record.{isSending, suiteOf, saltOf, keyOf, counterOf};
 ghost use Rattle.store.specs.Sframe.{sframe};
 ghost use Rattle.key_record.specs.inner.Rows.{Row, Numbered, counterLeft};
-ghost use Rattle.seal_frame.specs.Seal.{nextLength, causesOfSeal, nextFrame, seal};
-
-// Writes the header of a sending record's next frame to the front of head.
-pub fn write_next(row: &[u8], kid: Kid, head: &mut [u8]) -> usize
-    requires { ⌜ (Row (now row)) × (isSending (decode (now row)) ≡ true) × (maxHeader ≤ length (now head)) × (counterLeft (decode (now row)) ≡ true) ⌝ }
-    ensures { λ r. ⌜ (r ≡ length (header (kid .0) (counterOf (decode (now (row .entry)))))) × (r ≤ maxHeader) ⌝ }
-    ensures { λ r. ⌜ now (head .exit) ≡ header (kid .0) (counterOf (decode (now (row .entry)))) ++ drop r (now (head .entry)) ⌝ }
-{
-    let ctr = key_record::row::next_of(row);
-    let Written::Length(n) = header::write_header(kid, ctr, head) else {
-        return 0;
-    };
-    n
-}
-
-// The length of a sending record's next frame.
-fn next_length(row: &[u8], kid: Kid, plaintext: usize) -> usize
-    requires { ⌜ (Row (now row)) × (isSending (decode (now row)) ≡ true) × (plaintext ≤ maxPlaintext) × (counterLeft (decode (now row)) ≡ true) ⌝ }
-    ensures { λ r. ⌜ r ≡ nextLength (decode (now (row .entry))) (kid .0) plaintext ⌝ }
-{
-    let mut head = [0u8; MAX_HEADER];
-    let n = write_next(row, kid, &mut head);
-    let nt = key_record::row::suite_of(row).tag_size();
-    n + (plaintext + nt)
-}
-
-// The number of the first cause for which a held record refuses to seal; 0 where there is none.
-fn judge(row: &[u8], kid: Kid, metadata: usize, plaintext: usize, room: usize) -> u32
-    requires { ⌜ (Row (now row)) × (isEmpty (decode (now row)) ≡ false) ⌝ }
-    ensures { λ r. ⌜ r ≡ first (causesOfSeal true (decode (now (row .entry))) (kid .0) metadata plaintext 0 room) ⌝ }
-{
-    if !key_record::row::is_sending(row) {
-        return ROLE_REFUSED;
-    }
-    if !key_record::row::counter_left(row) {
-        return COUNTER_SPENT;
-    }
-    if too_long(plaintext, metadata) {
-        return INPUT_TOO_LONG;
-    }
-    if room < next_length(row, kid, plaintext) {
-        return ROOM_SHORT;
-    }
-    DONE
-}
+ghost use Rattle.judge_seal.specs.Seal.{causesOfSeal, nextFrame, seal};
 
 // Fills out with ciphertext and tag under the key and the next counter of a sending record.
 fn encrypt_next(
@@ -105,7 +55,7 @@ fn write_frame(row: &[u8], kid: Kid, metadata: &[u8], plaintext: &[u8], room: &m
 {
     let suite = key_record::row::suite_of(row);
     let mut head = [0u8; MAX_HEADER];
-    let n = write_next(row, kid, &mut head);
+    let n = judge_seal::write_next(row, kid, &mut head);
     let end = n + (plaintext.len() + suite.tag_size());
     octets::copy(room, &head[0..n]);
     encrypt_next(
@@ -139,7 +89,7 @@ pub fn seal(
     let Place::At(i) = store::find_near(store, kid, place) else {
         return refused(KID_MISSING);
     };
-    let number = judge(
+    let number = judge_seal::judge(
         store::row_at(store, i),
         kid,
         metadata.len(),

@@ -42,7 +42,7 @@ use Rattle.store.specs.Store.{records, sound}
 use Rattle.store.specs.Table.{get}
 use Rattle.store.proofs.Stores.{Stored, sound-stored, kids-apart, get-fit}
 use Rattle.store.proofs.Tables.{get-at}
-use Rattle.seal_frame.specs.Frame.{frameWith}
+use Rattle.judge_seal.specs.Frame.{frameWith}
 use Rattle.begin_state.specs.Begin.{firstState}
 use Rattle.begin_check.specs.Check.{checkCauses, checkAt, checkBegin}
 use Rattle.begin_check.proofs.Checks.{check-on, success as beginning}

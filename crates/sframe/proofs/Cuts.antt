@@ -32,8 +32,8 @@ use Rattle.store.specs.Sframe.{encryptBy, sframe}
 use Rattle.store.specs.Store.{records, sound}
 use Rattle.store.specs.Table.{get}
 use Rattle.store.proofs.Stores.{sound-stored}
-use Rattle.seal_frame.specs.Frame.{frameWith, frame}
-use Rattle.seal_frame.specs.Seal.{nextFrame}
+use Rattle.judge_seal.specs.Frame.{frameWith, frame}
+use Rattle.judge_seal.specs.Seal.{nextFrame}
 use Rattle.begin_state.specs.Begin.{firstState}
 use Rattle.begin_seal.specs.Begin.{sealBegin}
 use Rattle.begin_seal.proofs.Begins.{Begun, BeginStep, begin-step}

@@ -16,9 +16,9 @@ use Rattle.header.proofs.Laws.{header-begins}
 use Rattle.store.specs.Cipher.{Cipher}
 use Rattle.answers.proofs.Basics.{Two, yes′, no′, two}
 use Rattle.store.proofs.CipherLaws.{Laws, Usable}
-use Rattle.open_frame.specs.Open.{opening}
+use Rattle.judge_open.specs.Open.{opening}
 use Rattle.window.specs.Window.{seen, tooOld}
-use Rattle.seal_frame.specs.Frame.{frameWith, frame}
+use Rattle.judge_seal.specs.Frame.{frameWith, frame}
 use Rattle.sframe.specs.Promises.{kidOf, ctrOf, Begins, isSender, senders, OpenedTo, keyFrom, saltFrom, nonceOf, Holds, Frame, Pair, Kept}
 use Rattle.sframe.specs.History.{Adding, Sealing, Event, added, sealed, opened, other}
 use Rattle.sframe.proofs.Facts.{Each, Lines, bodyFor, Fact, ctr-fits, fact-reads, fact-kid, fact-ctr, Below, Proper, header-octets, salt-size, salt-bytes, usable-for}

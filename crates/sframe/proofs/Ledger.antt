@@ -22,33 +22,34 @@ use Rattle.begin_check.proofs.Checks.{check-store}
 use Rattle.header.specs.Answers.{readKid, readCtr}
 use Rattle.header.specs.Header.{header, readHeader}
 use Rattle.answers.specs.Answers.{Outcome}
-use Rattle.store.specs.Calls.{make, remove, find}
+use Rattle.store_calls.specs.Calls.{make, remove, find}
 use Rattle.add_key.specs.Add.{add, added as addedRecord}
 use Rattle.store.specs.Cipher.{Cipher}
 use Rattle.key_record.specs.Record.{ceiling, SendingKey, ReceivingKey, KeyRecord, empty, sending, receiving, retired, isReceiving, counterOf}
 use Rattle.store.specs.Table.{get, put, insert, without}
 use Rattle.answers.proofs.Basics.{Two, yes′, no′, two, settled-store}
 use Rattle.store.proofs.CipherLaws.{Laws, Usable}
-use Rattle.store.proofs.Keys.{make-stored, empties-get, RemoveStep, remove-step}
+use Rattle.store_calls.proofs.Keys.{make-stored, RemoveStep, remove-step}
+use Rattle.store.proofs.Empties.{empties-get}
 use Rattle.key_record.specs.inner.Rows.{kept}
 use Rattle.add_key.proofs.Adds.{AddStep, add-step}
 use Rattle.store.proofs.Stores.{Stored, Change}
 use Rattle.answers.specs.Limits.{maxPlaintext, maxMetadata}
-use Rattle.seal_frame.specs.Seal.{seal}
-use Rattle.open_frame.specs.Open.{opening}
-use Rattle.open_frame.proofs.Opened.{Opened, OpenStep, open-step}
+use Rattle.judge_seal.specs.Seal.{seal}
+use Rattle.judge_open.specs.Open.{opening}
+use Rattle.judge_open.proofs.Opened.{Opened, OpenStep, open-step}
 use Rattle.report_window.specs.Report.{report}
 use Rattle.change_epoch.specs.Epoch.{ofEpoch, withoutEpoch, changeEpoch}
 use Rattle.change_epoch.proofs.Epochs.{Swept, epoch-receives, EpochStep, epoch-step}
 use Rattle.window.specs.Window.{moved}
 use Rattle.window.specs.declared.Window.{Window}
-use Rattle.seal_frame.specs.Frame.{frameWith, frame}
+use Rattle.judge_seal.specs.Frame.{frameWith, frame}
 use Rattle.sframe.specs.Promises.{kidOf, ctrOf, senders, keyFrom, saltFrom}
 use Rattle.sframe.specs.History.{Call, Add, Remove, Seal, Open, Report, Find, ChangeEpoch, Begin, Piece, End, CheckBegin, CheckPiece, CheckEnd, Typed, AllTyped, Adding, Sealing, Event, added, sealed, opened, other, event, onLine, stateOn, pieced, ended, onward, History, beside, outcome, step, run, start}
 use Rattle.sframe.proofs.Facts.{Each, each-map, lineState, Lines, LineOf, whole, running, bodyFor, stateFor, Fact, fact-kid, fact-ctr, Below, Proper, usable-for}
 use Rattle.sframe.proofs.Lines.{senders-line, line-keeps, Keeps, proper-line, piece-keeps, end-keeps, none}
 use Rattle.key_record.specs.Suites.{withSuite, isSuite}
-use Rattle.seal_frame.proofs.Seals.{next, Sealed, SealStep, seal-step}
+use Rattle.judge_seal.proofs.Seals.{next, Sealed, SealStep, seal-step}
 use Rattle.key_record.specs.declared.Role.{Role}
 use Rattle.key_record.specs.declared.Role.the-variants.{Sending, Receiving}
 

@@ -24,11 +24,11 @@ use Rattle.answers.proofs.Basics.{Two, yes′, no′, two}
 use Rattle.store.proofs.CipherLaws.{Laws}
 use Rattle.store.proofs.Stores.{Stored, kids-apart, sound-stored, stored-records, stored-lengths}
 use Rattle.store.proofs.Tables.{get-at, put-at}
-use Rattle.seal_frame.specs.Seal.{sealAt, seal}
-use Rattle.open_frame.specs.Open.{openAt, opening}
-use Rattle.open_frame.proofs.Opened.{OpenStep, open-on, open-step}
+use Rattle.judge_seal.specs.Seal.{sealAt, seal}
+use Rattle.judge_open.specs.Open.{openAt, opening}
+use Rattle.judge_open.proofs.Opened.{OpenStep, open-on, open-step}
 use Rattle.sframe.specs.Promises.{Alike, OthersStay, SameAnswer}
-use Rattle.seal_frame.proofs.Seals.{next, SealStep, seal-step, seal-on}
+use Rattle.judge_seal.proofs.Seals.{next, SealStep, seal-step, seal-on}
 
 -- a place whose record holds a KID is a place of the table
 inside : (kid : ℕ) (rs : List KeyRecord) (i : ℕ) → holds kid (getD rs i empty) ≡ true → i < length rs

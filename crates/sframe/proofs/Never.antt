@@ -19,8 +19,8 @@ use Rattle.key_record.specs.declared.Role.the-variants.{Sending, Receiving}
 use Rattle.store.proofs.CipherLaws.{Laws}
 use Rattle.add_key.specs.Add.{barred, add}
 use Rattle.add_key.proofs.Adds.{AddStep, add-step}
-use Rattle.seal_frame.specs.Seal.{seal}
-use Rattle.open_frame.specs.Open.{opening}
+use Rattle.judge_seal.specs.Seal.{seal}
+use Rattle.judge_open.specs.Open.{opening}
 use Rattle.begin_seal.specs.Begin.{sealBegin}
 use Rattle.sframe.specs.History.{Call, Add, Remove, Seal, Open, Report, Find, ChangeEpoch, Begin, Piece, End, CheckBegin, CheckPiece, CheckEnd, Typed, AllTyped, Adding, Sealing, Event, added, sealed, opened, other, event, onLine, onward, History, outcome, step, run, start}
 use Rattle.sframe.specs.Promises.{isSender, senders, NeverAgain, NoneBarred}

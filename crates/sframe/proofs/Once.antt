@@ -17,21 +17,21 @@ use Rattle.window.specs.declared.Window.{Window}
 use Rattle.window.proofs.Laws.{moved-seen, moved-others, moved-old}
 use Rattle.key_record.specs.Record.{KeyRecord, empty, sending, receiving, retired}
 use Rattle.key_record.specs.inner.Rows.{kept}
-use Rattle.store.specs.Calls.{make, remove}
+use Rattle.store_calls.specs.Calls.{make, remove}
 use Rattle.store.specs.Cipher.{Cipher}
 use Rattle.store.specs.Table.{get, put, insert, without}
 use Rattle.store.proofs.CipherLaws.{Laws}
-use Rattle.store.proofs.Keys.{make-stored, RemoveStep, remove-step}
+use Rattle.store_calls.proofs.Keys.{make-stored, RemoveStep, remove-step}
 use Rattle.store.proofs.Stores.{Stored, Change}
 use Rattle.add_key.specs.Add.{add, added as addedRecord}
 use Rattle.add_key.proofs.Adds.{AddStep, add-step}
-use Rattle.seal_frame.specs.Seal.{seal}
-use Rattle.seal_frame.proofs.Seals.{next, SealStep, seal-step}
+use Rattle.judge_seal.specs.Seal.{seal}
+use Rattle.judge_seal.proofs.Seals.{next, SealStep, seal-step}
 use Rattle.begin_seal.specs.Begin.{sealBegin}
 use Rattle.begin_seal.proofs.Begins.{BeginStep, begin-step}
 use Rattle.begin_check.proofs.Checks.{check-store}
-use Rattle.open_frame.specs.Open.{opening}
-use Rattle.open_frame.proofs.Opened.{OpenStep, open-step}
+use Rattle.judge_open.specs.Open.{opening}
+use Rattle.judge_open.proofs.Opened.{OpenStep, open-step}
 use Rattle.change_epoch.specs.Epoch.{ofEpoch, withoutEpoch, changeEpoch}
 use Rattle.change_epoch.proofs.Epochs.{Swept, EpochStep, epoch-step}
 use Rattle.sframe.specs.History.{Call, Add, Remove, Seal, Open, Report, Find, ChangeEpoch, Begin, Piece, End, CheckBegin, CheckPiece, CheckEnd, Typed, AllTyped, Sealing, Opening, Event, added, sealed, opened, other, event, onLine, onward, History, outcome, step, run, start}

@@ -31,10 +31,10 @@ use Rattle.key_record.proofs.Codec.{Fit}
 use Rattle.store.proofs.Stores.{Stored, sound-stored, get-fit, kids-apart}
 use Rattle.store.proofs.Tables.{get-at}
 use Rattle.answers.specs.Limits.{maxPlaintext, maxMetadata, tooLong}
-use Rattle.open_frame.specs.Open.{plainOf, isDiffers, decrypted, plainLength, openCauses, causesOfOpen, openAt, opening}
-use Rattle.seal_frame.specs.Frame.{frameWith}
+use Rattle.judge_open.specs.Open.{plainOf, isDiffers, decrypted, plainLength, openCauses, causesOfOpen, openAt, opening}
+use Rattle.judge_seal.specs.Frame.{frameWith}
 use Rattle.key_record.specs.Suites.{tagSize}
-use Rattle.open_frame.proofs.Opened.{open-on}
+use Rattle.judge_open.proofs.Opened.{open-on}
 use Rattle.sframe.specs.Promises.{Holds, Encryption, Offered, WindowCauses, Openable, OpensExactly}
 
 short-enough : (n m : ℕ) → n ≤ maxPlaintext → m ≤ maxMetadata → tooLong n m ≡ false

@@ -9,22 +9,22 @@ use Rattle.octets.specs.Octets.{Octets, pick}
 use Rattle.answers.specs.Answers.{Outcome, settled}
 use Rattle.answers.proofs.Basics.{RefusalOn}
 use Rattle.pieces.specs.Calls.{Result, refusal, sealPiece, sealEnd, checkPiece}
-use Rattle.store.specs.Calls.{make, removeAt, remove, find}
+use Rattle.store_calls.specs.Calls.{make, removeAt, remove, find}
 use Rattle.add_key.specs.Add.{addAt, add}
 use Rattle.store.specs.Cipher.{Cipher}
 use Rattle.key_record.specs.Record.{KeyRecord, empty}
 use Rattle.store.specs.Store.{records, sound}
 use Rattle.store.specs.Table.{get}
 use Rattle.store.proofs.CipherLaws.{Laws}
-use Rattle.store.proofs.Keys.{make-stored, RemoveStep, remove-step}
+use Rattle.store_calls.proofs.Keys.{make-stored, RemoveStep, remove-step}
 use Rattle.add_key.proofs.Adds.{AddStep, add-step}
 use Rattle.store.proofs.Stores.{Stored, sound-stored, stored-sound, stored-records, stored-octets, stored-lengths}
-use Rattle.seal_frame.specs.Seal.{sealAt, seal}
+use Rattle.judge_seal.specs.Seal.{sealAt, seal}
 use Rattle.begin_seal.specs.Begin.{sealBegin}
 use Rattle.begin_seal.proofs.Begins.{begin-refused, BeginStep, begin-step}
 use Rattle.begin_check.proofs.Checks.{check-store, check-begin-refused}
-use Rattle.open_frame.specs.Open.{openAt, opening}
-use Rattle.open_frame.proofs.Opened.{OpenStep, open-step}
+use Rattle.judge_open.specs.Open.{openAt, opening}
+use Rattle.judge_open.proofs.Opened.{OpenStep, open-step}
 use Rattle.report_window.specs.Report.{report}
 use Rattle.header.specs.Answers.{readKid, readCtr}
 use Rattle.header.specs.Header.{readHeader}
@@ -34,7 +34,7 @@ use Rattle.sframe.specs.Promises.{Unchanged, EpochChanged}
 use Rattle.sframe.specs.History.{Call, Add, Remove, Seal, Open, Report, Find, ChangeEpoch, Begin, Piece, End, CheckBegin, CheckPiece, CheckEnd, Typed, roomOf, stateOf, Event, stateOn, beside, outcome}
 use Rattle.sframe.proofs.Ledger.{find-store, report-store}
 use Rattle.sframe.proofs.Refusals.{piece-refused, end-refused, check-refused}
-use Rattle.seal_frame.proofs.Seals.{SealStep, seal-step}
+use Rattle.judge_seal.proofs.Seals.{SealStep, seal-step}
 
 -- bytes that are a table are a sound store
 sound-bytes : (s : List ℕ) (rs : List KeyRecord) → Stored s rs → Octets s × (sound s ≡ true)

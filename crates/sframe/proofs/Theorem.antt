@@ -14,15 +14,15 @@ use Rattle.header.specs.Answers.{readKid}
 use Rattle.header.specs.Header.{readHeader}
 use Rattle.answers.specs.Answers.{alreadyOpened, counterTooOld}
 use Rattle.window.specs.Window.{fresh}
-use Rattle.store.specs.Calls.{make}
+use Rattle.store_calls.specs.Calls.{make}
 use Rattle.store.specs.Cipher.{Cipher}
 use Rattle.key_record.specs.Record.{ReceivingKey, suiteOf}
 use Rattle.key_record.specs.Suites.{tagSize}
 use Rattle.store.specs.Store.{records, sound}
 use Rattle.store.specs.Table.{get}
 use Rattle.pair_log.specs.Report.{decimal, line, report}
-use Rattle.seal_frame.specs.Seal.{nextFrame, seal}
-use Rattle.open_frame.specs.Open.{opening}
+use Rattle.judge_seal.specs.Seal.{nextFrame, seal}
+use Rattle.judge_open.specs.Open.{opening}
 use Rattle.pieces.specs.Calls.{checkEnd}
 use Rattle.begin_seal.specs.Begin.{sealBegin}
 use Rattle.begin_check.specs.Check.{checkBegin}

@@ -10,13 +10,13 @@ use Rattle.octets.specs.Octets.{Octets, pick}
 use Rattle.header.specs.Answers.{readKid, readCtr}
 use Rattle.header.specs.Header.{readHeader}
 use Rattle.answers.specs.Answers.{Outcome}
-use Rattle.store.specs.Calls.{make, remove, find}
+use Rattle.store_calls.specs.Calls.{make, remove, find}
 use Rattle.add_key.specs.Add.{add}
 use Rattle.store.specs.Cipher.{Cipher}
 use Rattle.pieces.specs.Calls.{Result, sealPiece, sealEnd, checkPiece, checkEnd}
-use Rattle.seal_frame.specs.Seal.{seal}
+use Rattle.judge_seal.specs.Seal.{seal}
 use Rattle.begin_seal.specs.Begin.{sealBegin}
-use Rattle.open_frame.specs.Open.{opening}
+use Rattle.judge_open.specs.Open.{opening}
 use Rattle.begin_check.specs.Check.{checkBegin}
 use Rattle.report_window.specs.Report.{report}
 use Rattle.change_epoch.specs.Epoch.{changeEpoch}

@@ -21,8 +21,8 @@ use Rattle.window.specs.Window.{seen, tooOld, moved}
 use Rattle.window.specs.declared.Window.{Window}
 use Rattle.answers.specs.Limits.{maxPlaintext, maxMetadata}
 use Rattle.add_key.specs.Add.{barred}
-use Rattle.open_frame.specs.Open.{opening}
-use Rattle.seal_frame.specs.Frame.{frameWith, frame}
+use Rattle.judge_open.specs.Open.{opening}
+use Rattle.judge_seal.specs.Frame.{frameWith, frame}
 use Rattle.change_epoch.specs.Epoch.{ofEpoch}
 use Rattle.key_record.specs.Suites.{tagSize}
 use Rattle.sframe.specs.History.{Call, roomOf, stateOf, Adding, Sealing, Opening, Event, added, sealed, opened, other}

@@ -5,12 +5,12 @@
 ghost use mathlib.Core.Path.{_≡_};
 ghost use Rattle.header.specs.Header.{writeHeader, readHeader};
 ghost use Rattle.header.specs.Answers.{writtenNumber, writtenLength, readNumber, readKid, readCtr, readLength};
-ghost use Rattle.store.specs.Calls.{make, remove, find, found};
+ghost use Rattle.store_calls.specs.Calls.{make, remove, find, found};
 ghost use Rattle.store.specs.Sframe.{sframe};
 ghost use Rattle.key_record.specs.declared.Role.the-variants.{Sending, Receiving};
 ghost use Rattle.add_key.specs.Add.{add};
-ghost use Rattle.seal_frame.specs.Seal.{seal};
-ghost use Rattle.open_frame.specs.Open.{opening};
+ghost use Rattle.judge_seal.specs.Seal.{seal};
+ghost use Rattle.judge_open.specs.Open.{opening};
 ghost use Rattle.begin_seal.specs.Begin.{sealBegin};
 ghost use Rattle.begin_check.specs.Check.{checkBegin};
 ghost use Rattle.pieces.specs.Calls.{sealPiece, sealEnd, checkPiece, checkEnd};
@@ -106,7 +106,7 @@ pub extern "C" fn sframe_make(store: &mut [u8]) -> u32
     ensures { λ r. ⌜ r ≡ make (now (store .entry)) .number ⌝ }
     ensures { λ r. ⌜ now (store .exit) ≡ make (now (store .entry)) .store ⌝ }
 {
-    store::make(store)
+    store_calls::make(store)
 }
 
 #[no_mangle]
@@ -130,7 +130,7 @@ pub extern "C" fn sframe_remove(store: &mut [u8], kid: u64) -> u32
     ensures { λ r. ⌜ r ≡ remove (now (store .entry)) kid .number ⌝ }
     ensures { λ r. ⌜ now (store .exit) ≡ remove (now (store .entry)) kid .store ⌝ }
 {
-    store::remove(store, Kid(kid), FRONT)
+    store_calls::remove(store, Kid(kid), FRONT)
 }
 
 // The same, with the place where the record is believed to stand.
@@ -139,7 +139,7 @@ pub extern "C" fn sframe_remove_near(store: &mut [u8], kid: u64, place: usize) -
     ensures { λ r. ⌜ r ≡ remove (now (store .entry)) kid .number ⌝ }
     ensures { λ r. ⌜ now (store .exit) ≡ remove (now (store .entry)) kid .store ⌝ }
 {
-    store::remove(store, Kid(kid), place)
+    store_calls::remove(store, Kid(kid), place)
 }
 
 #[no_mangle]
@@ -329,7 +329,7 @@ pub extern "C" fn sframe_find(store: &[u8], kid: u64, place: &mut usize) -> u32
     ensures { λ r. ⌜ r ≡ find (now (store .entry)) kid .number ⌝ }
     ensures { λ r. ⌜ now (place .exit) ≡ found (now (store .entry)) kid ⌝ }
 {
-    let answer = store::locate(store, Kid(kid));
+    let answer = store_calls::locate(store, Kid(kid));
     *place = answer.place;
     answer.number
 }

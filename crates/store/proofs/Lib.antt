@@ -1,11 +1,9 @@
 -- SPDX-License-Identifier: MIT
 pub mod CipherLaws
-mod Finds
-pub mod Keys
+pub mod Empties
 pub mod Moves
 pub mod Order
 pub mod Places
-mod Removal
 pub mod Stores
 pub mod Tables
 mod Walk

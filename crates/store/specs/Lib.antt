@@ -1,5 +1,4 @@
 -- SPDX-License-Identifier: MIT
-pub mod Calls
 pub mod Cipher
 pub mod Sframe
 pub mod Store

@@ -7,6 +7,7 @@ use Prim.Native.Nat.{ℕ, zero, suc, _*_, _/_, _%_}
 use lib.Dec.{leb, eqb}
 use lib.ListN.{length, take, drop}
 use Rattle.octets.specs.Octets.{both}
+use Rattle.answers.specs.Answers.{Outcome}
 use Rattle.key_record.specs.Layout.{recordSize, encode, decode, obeys}
 use Rattle.key_record.specs.Record.{KeyRecord}
 use Rattle.store.specs.Table.{ordered}
@@ -40,3 +41,7 @@ records s = decodeAll (length s / recordSize) s
 -- Sound: the length is right, every record obeys its row, KIDs rise and the empty records are last.
 unfoldable pub sound : List ℕ → Bool
 sound s = both (lengthRight (length s)) (both (allObey (length s / recordSize) s) (ordered (records s)))
+
+-- The outcome of a call that succeeds and has no room.
+abbrev pub stored : List ℕ → Outcome
+stored s = record { number = 0; written = 0; store = s; room = []; state = [] }

@@ -1,12 +1,7 @@
 // SPDX-License-Identifier: MIT
 // The key store: records, one after the other, in bytes that the caller lends.
-use answers::DONE;
-use answers::KID_MISSING;
-use answers::ROLE_REFUSED;
-use answers::STORE_INVALID;
 use header::Ctr;
 use header::Kid;
-use key_record::Kind;
 use key_record::RECORD_SIZE;
 use key_record::Role;
 use key_record::judging;
@@ -18,7 +13,6 @@ ghost use mathlib.Core.List.{[]};
 ghost use Prim.Native.Nat.{_/_, _<_, _≤_};
 ghost use lib.ListN.{length, getD, set};
 ghost use Rattle.answers.specs.Limits.{baseKeyMost};
-ghost use Rattle.store.specs.Calls.{make, remove, find, found};
 ghost use Rattle.key_record.specs.Layout.{recordSize};
 ghost use Rattle.key_record.specs.Record.{ceiling, empty, isSending, isReceiving, holds, counterOf, windowOf, advanced, noted};
 ghost use Rattle.store.specs.Store.{lengthRight, encodeAll, records, sound};
@@ -35,14 +29,8 @@ pub enum Place {
     Nowhere,
 }
 
-// What a search by a caller answers: its number, and the place.
-pub struct Located {
-    pub number: u32,
-    pub place: usize,
-}
-
 // Whether a length is that of a store.
-fn length_right(n: usize) -> bool
+pub fn length_right(n: usize) -> bool
     ensures { λ r. ⌜ r ≡ lengthRight n ⌝ }
 {
     if n < RECORD_SIZE {
@@ -200,7 +188,7 @@ pub fn note_at(store: &mut [u8], i: usize, ctr: Ctr)
 }
 
 // Retires record i, which is a sending one.
-fn retire_at(store: &mut [u8], i: usize)
+pub fn retire_at(store: &mut [u8], i: usize)
     requires { ⌜ (Within (now store) i) × (isSending (getD (records (now store)) i empty) ≡ true) ⌝ }
     ensures { λ _. ⌜ now (store .exit) ≡ encodeAll (set (records (now (store .entry))) i (kept (getD (records (now (store .entry))) i empty))) ⌝ }
 {
@@ -210,7 +198,7 @@ fn retire_at(store: &mut [u8], i: usize)
 }
 
 // Takes record i out: those behind it move down by one, and the last is empty.
-fn close_at(store: &mut [u8], i: usize)
+pub fn close_at(store: &mut [u8], i: usize)
     requires { ⌜ Within (now store) i ⌝ }
     ensures { λ _. ⌜ now (store .exit) ≡ encodeAll (closed i (records (now (store .entry)))) ⌝ }
 {
@@ -218,64 +206,4 @@ fn close_at(store: &mut [u8], i: usize)
     octets::move_down(&mut store[at..], RECORD_SIZE);
     let last = store.len() - RECORD_SIZE;
     row::clear(&mut store[last..]);
-}
-
-// Makes a store: zeros throughout.
-pub fn make(store: &mut [u8]) -> u32
-    ensures { λ r. ⌜ r ≡ make (now (store .entry)) .number ⌝ }
-    ensures { λ _. ⌜ now (store .exit) ≡ make (now (store .entry)) .store ⌝ }
-{
-    if !length_right(store.len()) {
-        return STORE_INVALID;
-    }
-    octets::clear(store);
-    DONE
-}
-
-// Removes the key of a KID. Any number may be given for the place where its record is believed to stand.
-pub fn remove(store: &mut [u8], kid: Kid, place: usize) -> u32
-    ensures { λ r. ⌜ r ≡ remove (now (store .entry)) (kid .0) .number ⌝ }
-    ensures { λ _. ⌜ now (store .exit) ≡ remove (now (store .entry)) (kid .0) .store ⌝ }
-{
-    if !is_sound(store) {
-        return STORE_INVALID;
-    }
-    let Place::At(i) = find_near(store, kid, place) else {
-        return KID_MISSING;
-    };
-    let kind = row::kind_of(row_at(store, i));
-    match kind {
-        Kind::Sender => {
-            retire_at(store, i);
-            DONE
-        }
-        Kind::Receiver => {
-            close_at(store, i);
-            DONE
-        }
-        Kind::Retired => ROLE_REFUSED,
-        Kind::Empty => KID_MISSING,
-    }
-}
-
-// Finds the place of the record that holds a KID, for a caller to hand in later.
-pub fn locate(store: &[u8], kid: Kid) -> Located
-    ensures { λ r. ⌜ (r .number ≡ find (now (store .entry)) (kid .0) .number) × (r .place ≡ found (now (store .entry)) (kid .0)) ⌝ }
-{
-    if !is_sound(store) {
-        return Located {
-            number: STORE_INVALID,
-            place: 0,
-        };
-    }
-    let Place::At(i) = find(store, kid) else {
-        return Located {
-            number: KID_MISSING,
-            place: 0,
-        };
-    };
-    Located {
-        number: DONE,
-        place: i,
-    }
 }

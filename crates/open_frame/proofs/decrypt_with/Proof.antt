@@ -5,7 +5,7 @@ use borrow.Author.Needs.{needs}
 use Rattle.suites.specs.Aead.{isPlain, roomAfter}
 use Rattle.key_record.specs.Layout.{decode}
 use Rattle.key_record.proofs.KindLaws.{receives-keyed}
-use Rattle.open_frame.proofs.OpenSteps.{frame-parts, parts-decrypt}
+use Rattle.judge_open.proofs.Steps.{frame-parts, parts-decrypt}
 use Rattle.open_frame.proofs.decrypt_with.Statement.{statement}
 use Rattle.open_frame.proofs.decrypt_with.Tie as tie
 

@@ -7,7 +7,7 @@ use Rattle.octets.specs.Octets.{Octets}
 use Rattle.header.proofs.Laws.{header-read}
 use Rattle.store.specs.Store.{sound}
 use Rattle.store.proofs.Places.{tested-sound, found-within}
-use Rattle.open_frame.proofs.OpenSteps.{open-unsound, open-invalid, open-missing, held-there, open-refused, open-clear, open-done}
+use Rattle.judge_open.proofs.Steps.{open-unsound, open-invalid, open-missing, held-there, open-refused, open-clear, open-done}
 use Rattle.open_frame.proofs.open.Statement.{statement}
 use Rattle.open_frame.proofs.open.Tie as tie
 

@@ -10,7 +10,7 @@ use Rattle.answers.proofs.Basics.{told-false, told-true}
 use Rattle.answers.proofs.Limits.{not-long}
 use Rattle.key_record.specs.Layout.{decode}
 use Rattle.key_record.specs.Record.{isReceiving}
-use Rattle.open_frame.proofs.OpenSteps.{role-refused, frame-short, too-long-refused, room-refused, room-told, new-counter, counter-refused, tag-refused, frame-opened}
+use Rattle.judge_open.proofs.Steps.{role-refused, frame-short, too-long-refused, room-refused, room-told, new-counter, counter-refused, tag-refused, frame-opened}
 use Rattle.open_frame.proofs.open_with.Statement.{statement}
 use Rattle.open_frame.proofs.open_with.Tie as tie
 

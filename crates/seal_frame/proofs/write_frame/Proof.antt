@@ -4,7 +4,8 @@ use native.Mathlib.Omega.{arith}
 use borrow.Author.Needs.{needs}
 use Rattle.key_record.specs.Layout.{decode}
 use Rattle.key_record.proofs.KindLaws.{sends-held}
-use Rattle.seal_frame.proofs.SealSteps.{clear, length-fits, frame-inside, front-fits, front-most, body-room, frame-length, frame-written}
+use Rattle.judge_seal.proofs.NextFrame.{length-fits}
+use Rattle.seal_frame.proofs.SealSteps.{clear, frame-inside, front-fits, front-most, body-room, frame-length, frame-written}
 use Rattle.seal_frame.proofs.write_frame.Statement.{statement}
 use Rattle.seal_frame.proofs.write_frame.Tie as tie
 

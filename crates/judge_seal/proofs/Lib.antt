@@ -1,0 +1,4 @@
+-- SPDX-License-Identifier: MIT
+pub mod NextFrame
+pub mod Seals
+mod Verdict

@@ -1,3 +1,0 @@
--- SPDX-License-Identifier: MIT
-mod OpenSteps
-pub mod Opened

@@ -1,0 +1,4 @@
+-- SPDX-License-Identifier: MIT
+mod Finds
+pub mod Keys
+mod Removal
