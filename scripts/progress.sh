@@ -21,7 +21,7 @@ needed_crates() {
 }
 
 # About how long the proofs of these crates take from nothing, by the table of crates in docs/ARCHITECTURE.md; a crate
-# that is named twice counts twice. The times there are of up to four crates at a time, and levels wait for their longest:
+# that is named twice counts twice. The times there are of up to five crates at a time, and those wait for the longest of them:
 # three at a time comes near.
 expected_time() {
     awk -v wanted="$*" -F'|' '
