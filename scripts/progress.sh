@@ -34,6 +34,19 @@ expected_time() {
         END { many = int(seconds / 180 + 1); print many == 1 ? "a minute" : many " minutes" }' docs/ARCHITECTURE.md
 }
 
+# What an archive is made of, in a word: toolchain, its own crate, and the proved crates below. It stands beside the archive,
+# which is not built again as long as it is the same.
+made_of() {
+    local crate
+    {
+        rt version
+        find "crates/$1" -type f -exec sha256sum {} + | sort
+        for crate in $(needed_crates "$1"); do
+            [ "$crate" = "$1" ] || cat "target/stamp/$crate"
+        done
+    } 2>/dev/null | sha256sum | cut -d' ' -f1
+}
+
 # One line of progress: in place on a terminal, else a line of its own.
 progress() {
     if [ -t 1 ]; then
