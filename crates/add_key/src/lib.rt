@@ -1,5 +1,7 @@
 // SPDX-License-Identifier: MIT
 // Adding a key. The causes are tried in the order 1, 2, 17, 3, 4, 5.
+#![tactic(auto)]
+
 ghost use Rattle.std.specs.Prelude.{◌≡◌};
 ghost use Rattle.add_key.specs.Add.{barred, add};
 ghost use Rattle.store.specs.Sframe.{sframe};

@@ -1,5 +1,7 @@
 // SPDX-License-Identifier: MIT
 // Adding a track. The causes are tried in the order 1, 2, 17, 3, 9, 4, 5.
+#![tactic(auto)]
+
 ghost use Rattle.std.specs.Prelude.{◌≡◌};
 ghost use Rattle.track_record.specs.Record.{track_id};
 ghost use Rattle.add_track.specs.Add.{barred, add};

@@ -4,6 +4,8 @@
 //
 // The sixteen blocks have one nonce and block counts that follow each other from a multiple of sixteen on, so that their
 // low four bits are the same in every batch.
+#![tactic(auto)]
+
 ghost use Rattle.std.specs.Prelude.{◌≡◌, ◌++◌, ◌+◌, ◌*◌, ◌%◌, ◌≤◌, ◌<◌, length, drop};
 ghost use Rattle.bit_transpose.specs.Transposition.{Transposed};
 ghost use Rattle.aes_rows.specs.Rows.{state_planes, Each};

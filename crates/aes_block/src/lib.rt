@@ -4,6 +4,8 @@
 //
 // A key is made into a context once, by `expand`; `encrypt` and `encrypt_block` work from it. What the array of a
 // context holds is known to this crate alone.
+#![tactic(auto)]
+
 ghost use Rattle.std.specs.Prelude.{◌≡◌, ◌++◌, ◌+◌, ◌*◌, ◌≤◌, ◌<◌, length, get_or, set, drop};
 ghost use Rattle.std.specs.Int.Bits.{bit_xor};
 ghost use Rattle.octets.specs.Octets.{bytes, pasted};

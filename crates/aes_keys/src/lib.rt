@@ -1,6 +1,8 @@
 // SPDX-License-Identifier: MIT
 // The key of AES in bit planes (FIPS 197 §5.2): the key schedule by the circuit of the S-box, with no look-up, and each
 // round key in the form in which a round of sixteen blocks takes it.
+#![tactic(auto)]
+
 ghost use Rattle.std.specs.Prelude.{◌≡◌, ◌+◌, ◌*◌, ◌/◌, ◌%◌, ◌^◌, ◌≤◌, ◌<◌, length};
 ghost use Rattle.aes.specs.Aes.{KeySize};
 ghost use Rattle.aes_rows.specs.Rows.{state_planes};

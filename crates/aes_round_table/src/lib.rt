@@ -1,6 +1,8 @@
 // SPDX-License-Identifier: MIT
 // The table by which a round of AES works, behind room for a key schedule: what a context starts from. It is one constant,
 // so that it is laid out once for each context, in its place.
+#![tactic(auto)]
+
 ghost use Rattle.aes_round_table.specs.Inner.RoundTable.{RoundTable};
 
 // The numbers in front of the table.

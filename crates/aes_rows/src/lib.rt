@@ -3,6 +3,8 @@
 //
 // A state is 32 words: word 8 r + i has bit i of row r. In a word stand the four columns of sixteen blocks, 16 lanes for
 // each column, the last column in the lowest lanes. Round keys have the same form.
+#![tactic(auto)]
+
 ghost use Rattle.std.specs.Prelude.{◌≡◌, ◌+◌, ◌*◌, ◌<◌, ◌≤◌, length};
 ghost use Rattle.bitslice.specs.Lanes.{Sum, Mixed};
 ghost use Rattle.aes_rows.specs.Rows.{state_planes, row_at, RowSet, Each, Substituting, Adding};

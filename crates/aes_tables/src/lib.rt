@@ -1,5 +1,7 @@
 // SPDX-License-Identifier: MIT
 // The two tables of constants of AES (FIPS 197), each proved by its rule.
+#![tactic(auto)]
+
 ghost use Rattle.aes_tables.specs.Inner.Tables.{SBoxTable, RconTable};
 
 // FIPS 197 §5.1.1, Table 4.

@@ -1,5 +1,7 @@
 // SPDX-License-Identifier: MIT
 // Runs the published vectors of AES, counter mode and GCM, and prints for each group how many matched.
+#![tactic(auto)]
+
 mod run;
 mod vectors;
 

@@ -1,5 +1,7 @@
 // SPDX-License-Identifier: MIT
 // What the calls of the layer share: the numbers of their answers, and how long their inputs may be.
+#![tactic(auto)]
+
 ghost use Rattle.std.specs.Prelude.{◌≡◌};
 ghost use Rattle.answers.specs.Limits.{too_long};
 

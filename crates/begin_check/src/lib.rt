@@ -1,5 +1,7 @@
 // SPDX-License-Identifier: MIT
 // Beginning to check a received frame in pieces. The causes are tried in the order 1, 10, 6, 7, 9, 12.
+#![tactic(auto)]
+
 ghost use Rattle.std.specs.Prelude.{◌≡◌, true, false, [], ◌≤◌, length};
 ghost use Rattle.header.specs.Header.{max_header};
 ghost use Rattle.header.specs.declared.Reading.TheVariants.{Header};

@@ -1,5 +1,7 @@
 // SPDX-License-Identifier: MIT
 // Beginning to seal in pieces. The causes are tried in the order 1, 6, 7, 8, 9, 12.
+#![tactic(auto)]
+
 ghost use Rattle.std.specs.Prelude.{◌≡◌, true, false, ◌++◌, length};
 ghost use Rattle.octets.specs.Octets.{pasted};
 ghost use Rattle.header.specs.Header.{header};

@@ -1,5 +1,7 @@
 // SPDX-License-Identifier: MIT
 // The running state that a line of calls begins with under a record of the store.
+#![tactic(auto)]
+
 ghost use Rattle.std.specs.Prelude.{◌≡◌, true, ◌++◌, ◌≤◌, length};
 ghost use Rattle.octets.specs.Octets.{pasted};
 ghost use Rattle.header.specs.Header.{max_header};

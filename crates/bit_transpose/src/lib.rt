@@ -1,5 +1,7 @@
 // SPDX-License-Identifier: MIT
 // Bits and bytes of several words that change places: planes into bytes, and rows of bytes into columns.
+#![tactic(auto)]
+
 ghost use Rattle.std.specs.Prelude.{◌≡◌, ◌+◌, ◌*◌, ◌^◌, ◌<◌};
 ghost use Rattle.bit_transpose.specs.Transposition.{Mask, Swapped, Transposed, column};
 

@@ -2,6 +2,8 @@
 // Bytes in bit planes: eight words hold 64 bytes, one in each lane, and an operation on words is one on every byte.
 //
 // There is no look-up and no branch here: what is done does not depend on what the bytes are.
+#![tactic(auto)]
+
 ghost use Rattle.std.specs.Prelude.{◌≡◌, ℕ, ◌+◌, ◌*◌, ◌-◌, ◌/◌, ◌%◌, ◌^◌, ◌≤◌, ◌<◌};
 ghost use Rattle.std.specs.Int.Bits.{bit_xor, bit_and, bit_or};
 ghost use Rattle.aes_tables.specs.Field.{x_times};

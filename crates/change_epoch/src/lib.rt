@@ -1,5 +1,7 @@
 // SPDX-License-Identifier: MIT
 // The change of epoch in an MLS group: the receiving keys of an epoch go, in one pass over the store.
+#![tactic(auto)]
+
 ghost use Rattle.std.specs.Prelude.{◌≡◌, true, ◌++◌, ◌+◌, ◌≤◌, length, take, drop};
 ghost use Rattle.octets.specs.Octets.{pasted};
 ghost use Rattle.group.specs.Group.{kid_bits};

@@ -1,5 +1,7 @@
 // SPDX-License-Identifier: MIT
 // Encryption and decryption, one way for all five suites: RFC 9605, sections 4.4.3, 4.4.4 and 4.5.
+#![tactic(auto)]
+
 ghost use Rattle.std.specs.Prelude.{◌≡◌, ◌++◌, ◌+◌, ◌-◌, ◌≤◌, length, take, drop};
 ghost use Rattle.aes_keys.specs.Inner.Keys.{size, Context, Ready, key_of};
 ghost use Rattle.gcm.specs.Counter.{ctr};

@@ -4,6 +4,8 @@
 // Of two factors whose set bits stand four apart, at most eight in each, the integer product adds up to eight bits at
 // every fourth place. Such a sum stays in that place and the three above it, so that the place itself has its parity: the
 // bit of the product without carries.
+#![tactic(auto)]
+
 ghost use Rattle.std.specs.Prelude.{◌≡◌, ◌*◌};
 ghost use Rattle.std.specs.Int.Bits.{bit_xor};
 ghost use Rattle.clmul.specs.Clmul.{clmul};

@@ -2,6 +2,8 @@
 // The frame reader: what a frame's header says, with a reference to the caller's frame, whose parts it hands out as slices.
 // Its functions are thin: each takes it apart and calls one on the slice and the number. `kid_of` and those below it have
 // plain parameters, for every other caller.
+#![tactic(auto)]
+
 ghost use Rattle.std.specs.Prelude.{◌≡◌, take, drop};
 ghost use Rattle.header.specs.Header.{read_header};
 ghost use Rattle.header.specs.Answers.{read_kid, read_ctr, read_length};

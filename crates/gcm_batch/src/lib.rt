@@ -3,6 +3,8 @@
 //
 // The associated data are given in two parts and hashed one after the other. A GCM key is an AES context and the
 // context of its hash key.
+#![tactic(auto)]
+
 ghost use Rattle.std.specs.Prelude.{◌≡◌, ◌++◌, ◌+◌, ◌*◌, ◌≤◌, length, take, replicate};
 ghost use Rattle.aes.specs.Aes.{block_size, encrypt};
 ghost use Rattle.aes_keys.specs.Inner.Keys.{Ready, key_of};

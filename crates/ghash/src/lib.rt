@@ -1,6 +1,8 @@
 // SPDX-License-Identifier: MIT
 // GHASH (SP 800-38D §6.4). A product of blocks is taken as one of polynomials, by nine products of 32 bits after
 // Karatsuba, and reduced. There is no table: no index and no branch depends on a block or on the hash key.
+#![tactic(auto)]
+
 ghost use Rattle.std.specs.Prelude.{◌≡◌, ◌++◌, ◌+◌, ◌^◌, ◌≤◌, ◌<◌, length, get_or, drop};
 ghost use Rattle.std.specs.Int.Bits.{bit_xor};
 ghost use Rattle.octets.specs.Octets.{number, bytes};

@@ -1,5 +1,7 @@
 // SPDX-License-Identifier: MIT
 // KIDs of the members of an MLS group: RFC 9605, section 5.2. S bits are the sender index's, E bits the epoch's.
+#![tactic(auto)]
+
 ghost use Rattle.std.specs.Prelude.{◌≡◌, ◌+◌, ◌*◌, ◌/◌, ◌%◌, ◌^◌, ◌≤◌, ◌<◌, leb, ltb};
 ghost use Rattle.group.specs.Group.{kid_bits, context_in, index_in, epoch_in, given, pack_number, packed, unpack_number};
 

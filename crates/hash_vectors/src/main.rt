@@ -1,5 +1,7 @@
 // SPDX-License-Identifier: MIT
 // Runs the published vectors of SHA-2, HMAC and HKDF, and prints a line for each group.
+#![tactic(auto)]
+
 mod cases;
 mod vectors;
 

@@ -1,5 +1,7 @@
 // SPDX-License-Identifier: MIT
 // The SFrame header of RFC 9605, section 4.3: its writer and its reader.
+#![tactic(auto)]
+
 ghost use Rattle.std.specs.Prelude.{◌≡◌, ◌+◌, ◌*◌, ◌≤◌, ◌<◌, length};
 ghost use Rattle.header.specs.Header.{size, flag, code, width, max_header, header, read_field, read_header, write_header};
 

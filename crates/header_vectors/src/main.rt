@@ -2,6 +2,8 @@
 // Runs the header vectors of standard input: each is written and read, or read alone, or refused, and the program
 // prints for each group how many came out right and how many wrong. Each is also the front of a frame,
 // whose reader must show the KID, the counter, the header and the bytes after it.
+#![tactic(auto)]
+
 ghost use Rattle.std.specs.Prelude.{◌≡◌, ◌≤◌, ◌<◌, length};
 
 use header::{Ctr, Kid, Reading, Written};

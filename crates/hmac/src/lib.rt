@@ -1,5 +1,7 @@
 // SPDX-License-Identifier: MIT
 // HMAC, RFC 2104, and HKDF, RFC 5869, with SHA-256 and with SHA-512.
+#![tactic(auto)]
+
 mod with_sha256;
 mod with_sha512;
 

@@ -1,5 +1,7 @@
 // SPDX-License-Identifier: MIT
 // The tag of the suites of counter mode: RFC 9605, section 4.5.1.
+#![tactic(auto)]
+
 ghost use Rattle.std.specs.Prelude.{◌≡◌, ◌++◌, ◌*◌, ◌≤◌, length};
 ghost use Rattle.octets.specs.Octets.{bytes};
 ghost use Rattle.sha2_common.specs.Sizes.{sha256};

@@ -1,5 +1,7 @@
 // SPDX-License-Identifier: MIT
 // What Open asks of the room and of the window of the record that is found: 12, 14, 15.
+#![tactic(auto)]
+
 ghost use Rattle.std.specs.Prelude.{◌≡◌, true, length};
 ghost use Rattle.key_record.specs.Layout.{record_size, decode};
 ghost use Rattle.key_record.specs.Record.{is_receiving, window_of};

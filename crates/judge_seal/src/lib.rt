@@ -1,5 +1,7 @@
 // SPDX-License-Identifier: MIT
 // What Seal asks of the record that is found, in the order 7, 8, 9, 12, and the header that it gives next.
+#![tactic(auto)]
+
 ghost use Rattle.std.specs.Prelude.{◌≡◌, true, false, ◌++◌, ◌≤◌, length, drop};
 ghost use Rattle.header.specs.Header.{max_header, header};
 ghost use Rattle.answers.specs.Answers.{first};

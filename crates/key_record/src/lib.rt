@@ -1,5 +1,7 @@
 // SPDX-License-Identifier: MIT
 // One record of the key store: 96 bytes, and what they are as a record. Nobody outside this crate knows where a field stands.
+#![tactic(auto)]
+
 pub mod judging;
 pub mod row;
 

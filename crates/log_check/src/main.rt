@@ -1,6 +1,8 @@
 // SPDX-License-Identifier: MIT
 // Lists the pairs of KID and counter that stand twice or more in the log of sealings on standard input. Where the input
 // cannot be read to its end it writes nothing, and says so on standard error.
+#![tactic(auto)]
+
 ghost use Rattle.io.specs.Counts.{IsPrefixLen};
 
 use libc::{STDIN_FILENO, STDOUT_FILENO};

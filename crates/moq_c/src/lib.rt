@@ -2,6 +2,8 @@
 // The C interface of the sealing of MoQ objects. Each function does nothing but call the layer and hand its answer over: the
 // result is the answer's number, and lengths go through pointers. A slice passes as a pointer and then a length. include/moq.h
 // declares what stands here.
+#![tactic(auto)]
+
 ghost use Rattle.std.specs.Prelude.{◌≡◌};
 ghost use Rattle.track_record.specs.Record.{track_id};
 ghost use Rattle.track_record.specs.declared.Role.TheVariants.{Sending, Receiving};

@@ -1,5 +1,7 @@
 // SPDX-License-Identifier: MIT
 // Big-endian numbers in bytes, and copying, clearing, comparing and combining slices of bytes.
+#![tactic(auto)]
+
 ghost use Rattle.std.specs.Prelude.{◌≡◌, ◌++◌, ◌+◌, ◌*◌, ◌-◌, ◌^◌, ◌≤◌, ◌<◌, min, length, take, drop, replicate};
 ghost use Rattle.octets.specs.Octets.{number, bytes, pasted, same, xors};
 

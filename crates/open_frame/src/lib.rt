@@ -1,6 +1,8 @@
 // SPDX-License-Identifier: MIT
 // Opening a frame. Each step goes on with what it finds, or returns its own refusal, in the order 1, 10, 6, 7, 11, 9,
 // 12, 14, 15, 13.
+#![tactic(auto)]
+
 ghost use Rattle.std.specs.Prelude.{◌≡◌, true, false, [], ◌++◌, ◌+◌, ◌-◌, ◌≤◌, length, take, drop};
 ghost use Rattle.header.specs.Header.{max_header};
 ghost use Rattle.header.specs.declared.Reading.TheVariants.{Header};

@@ -1,5 +1,7 @@
 // SPDX-License-Identifier: MIT
 // Opening an object. Each step goes on with what it finds, or returns its own refusal, in the order 1, 6, 7, 25, 11, 9, 12, 13.
+#![tactic(auto)]
+
 ghost use Rattle.std.specs.Prelude.{◌≡◌, true, false, [], ◌≤◌, length};
 ghost use Rattle.answers.specs.Answers.{first};
 ghost use Rattle.aead.specs.Aead.{plain};

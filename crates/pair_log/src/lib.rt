@@ -1,5 +1,7 @@
 // SPDX-License-Identifier: MIT
 // A log of sealings, records of 16 bytes, and the pairs of KID and counter that stand in it twice or more.
+#![tactic(auto)]
+
 ghost use Rattle.std.specs.Prelude.{◌≡◌, [], ◌∷◌, ◌++◌, ◌+◌, ◌*◌, ◌/◌, ◌^◌, ◌≤◌, ◌<◌, eqb, ltb, length, get_or, take};
 ghost use Rattle.octets.specs.Octets.{ascii, both, number, pasted};
 ghost use Rattle.pair_log.specs.Pairs.{record_size, pairs, among, inserted, repeated};

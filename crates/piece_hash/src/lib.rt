@@ -1,6 +1,8 @@
 // SPDX-License-Identifier: MIT
 // Running hashes in 96 lent bytes: SHA-256, and GHASH over whole blocks. The first 32 hold the value, the others the bytes that
 // wait for the rest of their block.
+#![tactic(auto)]
+
 ghost use Rattle.std.specs.Prelude.{◌≡◌, ◌++◌, ◌+◌, ◌≤◌, ◌<◌, ◌^◌, length, take};
 ghost use Rattle.aes.specs.Aes.{block_size};
 ghost use Rattle.sha2_common.specs.Sha2.{words};

@@ -1,6 +1,8 @@
 // SPDX-License-Identifier: MIT
 // A line of calls on a frame in pieces: the running state (`state`), and what is done to it: the ciphertext of a piece, the
 // running hash, the tag.
+#![tactic(auto)]
+
 pub mod state;
 
 ghost use Rattle.std.specs.Prelude.{◌≡◌, ◌+◌, ◌≤◌, length, take};

@@ -1,5 +1,7 @@
 // SPDX-License-Identifier: MIT
 // Counter mode from any byte of the key stream on, sixteen blocks at a time.
+#![tactic(auto)]
+
 ghost use Rattle.std.specs.Prelude.{◌≡◌, ◌+◌, ◌*◌, ◌≤◌, ◌<◌, length};
 ghost use Rattle.aes.specs.Aes.{block_size};
 ghost use Rattle.aes_keys.specs.Inner.Keys.{Ready, key_of};

@@ -1,6 +1,8 @@
 // SPDX-License-Identifier: MIT
 // A frame in pieces, without a store: the state that a line begins with, and the calls on it. The causes are tried in the order
 // 16, 12 where sealing, and 16, 11, 13 where checking.
+#![tactic(auto)]
+
 mod beginning;
 
 ghost use Rattle.std.specs.Prelude.{◌≡◌, ◌+◌, ◌≤◌, length};

@@ -1,6 +1,8 @@
 // SPDX-License-Identifier: MIT
 // Sender keys that are ratcheted forward: RFC 9605, section 5.1. The walk of a base key, and the KID of a generation and
 // a step.
+#![tactic(auto)]
+
 ghost use Rattle.std.specs.Prelude.{◌≡◌, true, ◌^◌, ◌≤◌, ◌<◌, length};
 ghost use Rattle.answers.specs.Answers.{ratchet_kid_invalid, first};
 ghost use Rattle.answers.specs.Limits.{base_key_most};

@@ -1,5 +1,7 @@
 // SPDX-License-Identifier: MIT
 // How many of the last 64 counters were opened with a receiving key. The causes are tried in the order 1, 6, 7.
+#![tactic(auto)]
+
 ghost use Rattle.std.specs.Prelude.{◌≡◌};
 ghost use Rattle.report_window.specs.Report.{report, reported};
 

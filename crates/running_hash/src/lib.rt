@@ -1,6 +1,8 @@
 // SPDX-License-Identifier: MIT
 // Hash states behind `&mut`: thin functions over those of sha256 and sha512, and above them the digest of two pieces, for callers without
 // a state of their own.
+#![tactic(auto)]
+
 ghost use Rattle.std.specs.Prelude.{◌≡◌, ◌+◌, ◌≤◌, length};
 ghost use Rattle.sha2_common.specs.Sizes.{sha256, sha512};
 ghost use Rattle.sha2_common.specs.Limits.{maximum};

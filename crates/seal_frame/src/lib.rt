@@ -1,5 +1,7 @@
 // SPDX-License-Identifier: MIT
 // Sealing a frame. The causes are tried in the order 1, 6, 7, 8, 9, 12.
+#![tactic(auto)]
+
 ghost use Rattle.std.specs.Prelude.{◌≡◌, true, ◌++◌, ◌+◌, ◌≤◌, length, drop};
 ghost use Rattle.header.specs.Header.{max_header};
 ghost use Rattle.answers.specs.Answers.{done, first};

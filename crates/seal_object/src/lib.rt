@@ -1,5 +1,7 @@
 // SPDX-License-Identifier: MIT
 // Sealing an object. The causes are tried in the order 1, 6, 7, 25, 24, 9, 12.
+#![tactic(auto)]
+
 ghost use Rattle.std.specs.Prelude.{◌≡◌, true, false, ◌++◌, ◌≤◌, ◌<◌, length, drop};
 ghost use Rattle.answers.specs.Answers.{done, first};
 ghost use Rattle.secure_objects.specs.Objects.{name_most};

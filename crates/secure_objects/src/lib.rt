@@ -1,6 +1,8 @@
 // SPDX-License-Identifier: MIT
 // Secure objects of draft-ietf-moq-secure-objects: key derivation, associated data, nonce, encryption and decryption, over the
 // AEAD and the HKDF of the suites.
+#![tactic(auto)]
+
 pub mod derivation;
 pub mod object;
 pub mod varint;

@@ -1,2 +1,3 @@
 // SPDX-License-Identifier: MIT
 // Lists of calls on one store: what holds of every list is stated in specs/ and proved in proofs/. There is no code here.
+#![tactic(auto)]

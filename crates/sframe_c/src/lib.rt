@@ -2,6 +2,8 @@
 // The C interface. Each function does nothing but call the layer and hand its answer over: the
 // result is the answer's number, and lengths and values go through pointers. A slice passes as a
 // pointer and then a length. include/sframe.h declares what stands here.
+#![tactic(auto)]
+
 ghost use Rattle.std.specs.Prelude.{◌≡◌};
 ghost use Rattle.header.specs.Header.{write_header, read_header};
 ghost use Rattle.header.specs.Answers.{written_number, written_length, read_number, read_kid, read_ctr, read_length};

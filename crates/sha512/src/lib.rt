@@ -1,5 +1,7 @@
 // SPDX-License-Identifier: MIT
 // SHA-512, FIPS 180-4 section 6.4, of a message that is given in pieces.
+#![tactic(auto)]
+
 mod constants;
 
 ghost use Rattle.std.specs.Prelude.{◌≡◌, ℕ, ◌+◌, ◌%◌, ◌<◌, ◌≤◌, List, [], ◌++◌, length, take};

@@ -1,5 +1,7 @@
 // SPDX-License-Identifier: MIT
 // The key store: records, one after the other, in bytes that the caller lends.
+#![tactic(auto)]
+
 ghost use Rattle.std.specs.Prelude.{◌≡◌, true, false, [], ◌/◌, ◌<◌, ◌≤◌, length, get_or, set};
 ghost use Rattle.answers.specs.Limits.{base_key_most};
 ghost use Rattle.key_record.specs.Layout.{record_size};

@@ -1,5 +1,7 @@
 // SPDX-License-Identifier: MIT
 // The calls Make, Remove and Find. Causes are tried in the order 1, 6, 7.
+#![tactic(auto)]
+
 ghost use Rattle.std.specs.Prelude.{◌≡◌};
 ghost use Rattle.store_calls.specs.Calls.{make, remove, find, found};
 

@@ -1,6 +1,8 @@
 // SPDX-License-Identifier: MIT
 // Runs the published cases of the suites from standard input, and prints for each group how many came out right and
 // how many wrong.
+#![tactic(auto)]
+
 ghost use Rattle.std.specs.Prelude.{◌≡◌, ◌≤◌, ◌<◌, length};
 ghost use Rattle.io.specs.Counts.{IsPrefixLen};
 

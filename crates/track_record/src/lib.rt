@@ -1,6 +1,8 @@
 // SPDX-License-Identifier: MIT
 // One record of the track store, 344 bytes, and what they are as a record. Nobody outside this crate knows where a field stands;
 // docs/TRACKS.md says it.
+#![tactic(auto)]
+
 pub mod judging;
 pub mod row;
 

@@ -1,5 +1,7 @@
 // SPDX-License-Identifier: MIT
 // The track store: records, one after the other, in bytes that the caller lends.
+#![tactic(auto)]
+
 ghost use Rattle.std.specs.Prelude.{◌≡◌, true, false, ◌<◌, ◌≤◌, length, get_or, set};
 ghost use Rattle.answers.specs.Limits.{base_key_most};
 ghost use Rattle.secure_objects.specs.Objects.{name_most, object_ceiling, counter};

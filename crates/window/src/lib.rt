@@ -1,5 +1,7 @@
 // SPDX-License-Identifier: MIT
 // The replay window of a receiving key.
+#![tactic(auto)]
+
 ghost use Rattle.std.specs.Prelude.{◌≡◌, true, false, ◌*◌, ◌%◌, ◌^◌, ◌<◌};
 ghost use Rattle.window.specs.Window.{span, bit, fits, seen, too_old, moved, opened};
 
