@@ -35,7 +35,7 @@ pub fn take_key(x: &mut Words, key: &[u8])
 }
 
 // Where a word stands, as word j * nk + m.
-#[derive(Drop)]
+#[derive(Clone, Copy)]
 pub struct Place {
     pub j: usize,
     pub m: usize,

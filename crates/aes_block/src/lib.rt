@@ -38,7 +38,7 @@ const CONTEXT_SIZE: usize = TABLE_AT + ENTRIES;
 pub type Context = [u64; CONTEXT_SIZE];
 
 // The state: four columns, each a word whose first byte is the highest.
-#[derive(Drop)]
+#[derive(Clone, Copy)]
 pub struct State {
     pub c0: u32,
     pub c1: u32,

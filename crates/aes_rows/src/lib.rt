@@ -65,7 +65,7 @@ pub fn sub_rows(q: &mut [u64])
 }
 
 // The four rows.
-#[derive(Drop)]
+#[derive(Clone, Copy)]
 pub struct State {
     pub r0: Planes,
     pub r1: Planes,

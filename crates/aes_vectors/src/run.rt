@@ -2,7 +2,7 @@
 // Runs one vector and compares the answer with the one expected.
 
 // How many vectors matched, and how many did not.
-#[derive(Drop)]
+#[derive(Clone, Copy)]
 pub struct Tally {
     pub matched: u32,
     pub differed: u32,

@@ -65,7 +65,7 @@ pub const MAX_PLAINTEXT: usize = 32768;
 pub const MAX_METADATA: usize = 1024;
 
 // What a call that fills a room answers: its number, and how many bytes it wrote.
-#[derive(Drop)]
+#[derive(Clone, Copy)]
 pub struct Answer {
     pub number: u32,
     pub length: usize,

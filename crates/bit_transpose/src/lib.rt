@@ -7,7 +7,7 @@ ghost use Rattle.bit_transpose.specs.Transposition.{Mask, Swapped, Transposed, c
 
 use bitslice::Planes;
 
-#[derive(Drop)]
+#[derive(Clone, Copy)]
 pub struct Pair {
     pub a: u64,
     pub b: u64,
@@ -66,7 +66,7 @@ pub fn transpose(q: Planes) -> Planes
 }
 
 // Two words of each of two blocks.
-#[derive(Drop)]
+#[derive(Clone, Copy)]
 pub struct Halves {
     pub a: u64,
     pub b: u64,

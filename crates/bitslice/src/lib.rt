@@ -12,7 +12,7 @@ ghost use Rattle.bitslice.specs.Circuit.{top, products, inverse, scaled, bottom}
 ghost use Rattle.bitslice.specs.Inner.Parts.{eight_of, sums_of, nibble_of, inverted_of, terms_of, flip_word, Words};
 
 // Sixty-four bytes: bit i of the byte in lane j is bit j of plane i.
-#[derive(Drop)]
+#[derive(Clone, Copy)]
 pub struct Planes {
     pub p0: u64,
     pub p1: u64,
@@ -27,7 +27,7 @@ pub struct Planes {
 // The S-box on every lane is `bottom(scaled(inverse(products(y)), y))` of `y = top(q)`. Five small functions, so that the
 // compiler puts them into a loop over rows and there works on two rows at a time; one large function it would call.
 
-#[derive(Drop)]
+#[derive(Clone, Copy)]
 pub struct Sums {
     pub x7: u64,
     pub y1: u64,
@@ -53,7 +53,7 @@ pub struct Sums {
     pub y21: u64,
 }
 
-#[derive(Drop)]
+#[derive(Clone, Copy)]
 pub struct Nibble {
     pub t21: u64,
     pub t22: u64,
@@ -61,7 +61,7 @@ pub struct Nibble {
     pub t24: u64,
 }
 
-#[derive(Drop)]
+#[derive(Clone, Copy)]
 pub struct Inverted {
     pub t29: u64,
     pub t33: u64,
@@ -74,7 +74,7 @@ pub struct Inverted {
     pub t45: u64,
 }
 
-#[derive(Drop)]
+#[derive(Clone, Copy)]
 pub struct Terms {
     pub z0: u64,
     pub z1: u64,

@@ -12,7 +12,7 @@ ghost use Rattle.frame.specs.Frame.{header_bytes, after_header};
 use header::{Ctr, Kid, Reading};
 
 // What a header says, with its length: all three 0 where it is refused.
-#[derive(Drop)]
+#[derive(Clone, Copy)]
 pub struct Fields {
     pub kid: Kid,
     pub ctr: Ctr,
@@ -20,7 +20,7 @@ pub struct Fields {
 }
 
 // A frame, with what its header says. A length of 0 means that the header is refused.
-#[derive(Drop)]
+#[derive(Clone, Copy)]
 pub struct FrameReader<'a> {
     pub kid: Kid,
     pub ctr: Ctr,

@@ -24,7 +24,7 @@ const LAST: usize = FACTORS - 1;
 pub type HashKey = [u32; FACTORS];
 
 // A block, in two halves.
-#[derive(Drop)]
+#[derive(Clone, Copy)]
 pub struct Block {
     pub hi: u64,
     pub lo: u64,

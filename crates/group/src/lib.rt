@@ -63,7 +63,7 @@ pub fn in_bits(x: u64, n: u64) -> bool
 }
 
 // What packing answers: its number, and the KID, which is 0 where it is refused.
-#[derive(Drop)]
+#[derive(Clone, Copy)]
 pub struct Packed {
     pub number: u32,
     pub kid: Kid,
@@ -100,7 +100,7 @@ pub fn pack(context: u64, index: u64, epoch: u64, s: u64, e: u64) -> Packed
 }
 
 // What unpacking answers: its number, and the parts, which are 0 where it is refused.
-#[derive(Drop)]
+#[derive(Clone, Copy)]
 pub struct Parts {
     pub number: u32,
     pub context: u64,

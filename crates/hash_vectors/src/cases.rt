@@ -11,7 +11,7 @@ use sha256::Sha256;
 use sha512::Sha512;
 use std::num::{wrapping_add_u8, wrapping_add_u64};
 
-#[derive(Drop)]
+#[derive(Clone, Copy)]
 pub struct Tally {
     pub matches: u64,
     pub mismatches: u64,

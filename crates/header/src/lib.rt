@@ -12,29 +12,29 @@ const SMALL: u64 = 8;
 pub const MAX_HEADER: usize = 17;
 
 // A Key ID.
-#[derive(Drop)]
+#[derive(Clone, Copy)]
 pub struct Kid(pub u64);
 
 // A counter.
-#[derive(Drop)]
+#[derive(Clone, Copy)]
 pub struct Ctr(pub u64);
 
 // A field of the header as it was read: its value, and how many bytes of it follow the config byte.
-#[derive(Drop)]
+#[derive(Clone, Copy)]
 pub enum Field {
     Value(u64, usize),
     Refused,
 }
 
 // What stands at the front of some bytes: a header with its length, or none.
-#[derive(Drop)]
+#[derive(Clone, Copy)]
 pub enum Reading {
     Header(Kid, Ctr, usize),
     Invalid,
 }
 
 // What writing a header answers: its length, or that the room is too short for it.
-#[derive(Drop)]
+#[derive(Clone, Copy)]
 pub enum Written {
     Length(usize),
     NoRoom,

@@ -15,27 +15,27 @@ const ROOM: usize = 32;
 // What the room holds before a header is written to it.
 const PATTERN: u8 = 0xa5;
 
-#[derive(Drop)]
+#[derive(Clone, Copy)]
 struct Parsed {
     value: u64,
     next: usize,
 }
 
-#[derive(Drop)]
+#[derive(Clone, Copy)]
 struct Bytes {
     bytes: [u8; 32],
     len: usize,
 }
 
 // What is tried of a KID, a CTR and a header: the header in its shortest form or a longer one, or a frame that begins with it.
-#[derive(Drop)]
+#[derive(Clone, Copy)]
 enum Trial {
     Shortest,
     Longer,
     Frame,
 }
 
-#[derive(Drop)]
+#[derive(Clone, Copy)]
 enum Line {
     Vector(bool),
     Edge(bool),
@@ -44,7 +44,7 @@ enum Line {
     Comment,
 }
 
-#[derive(Drop)]
+#[derive(Clone, Copy)]
 struct Tally {
     right: u64,
     wrong: u64,

@@ -17,7 +17,7 @@ use sha256::Sha256;
 
 // The running HMAC: the inner hash, which takes the text, and the outer hash, which waits for the
 // inner digest.
-#[derive(Drop)]
+#[derive(Clone, Copy)]
 pub struct HmacSha256 {
     inner: Sha256,
     outer: Sha256,

@@ -17,7 +17,7 @@ use sha512::Sha512;
 
 // The running HMAC: the inner hash, which takes the text, and the outer hash, which waits for the
 // inner digest.
-#[derive(Drop)]
+#[derive(Clone, Copy)]
 pub struct HmacSha512 {
     inner: Sha512,
     outer: Sha512,

@@ -12,7 +12,7 @@ use answers::{ALREADY_OPENED, COUNTER_TOO_OLD, DONE};
 use header::Ctr;
 
 // Whether a room takes so many bytes.
-#[derive(Drop)]
+#[derive(Clone, Copy)]
 pub enum Room {
     Enough(usize),
     Short,

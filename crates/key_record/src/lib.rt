@@ -44,14 +44,14 @@ const LAYOUT_VERSION: u8 = 1;
 const LAST: u64 = 0xffff_ffff_ffff_ffff;
 
 // What a key is added for.
-#[derive(Drop)]
+#[derive(Clone, Copy)]
 pub enum Role {
     Sending,
     Receiving,
 }
 
 // What a record is.
-#[derive(Drop)]
+#[derive(Clone, Copy)]
 pub enum Kind {
     Empty,
     Sender,

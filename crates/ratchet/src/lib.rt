@@ -117,7 +117,7 @@ pub fn walk(suite: u64, base: &[u8], steps: u64, room: &mut [u8]) -> Answer
 }
 
 // What the KID of a generation and a step is answered with: its number, and the KID, which is 0 where it is refused.
-#[derive(Drop)]
+#[derive(Clone, Copy)]
 pub struct Numbered {
     pub number: u32,
     pub kid: Kid,

@@ -10,7 +10,7 @@ use header::Kid;
 use store::Place;
 
 // What a report answers: its number, and the count.
-#[derive(Drop)]
+#[derive(Clone, Copy)]
 pub struct Counted {
     pub number: u32,
     pub count: u64,

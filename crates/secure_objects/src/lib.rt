@@ -8,13 +8,13 @@ pub mod object;
 pub mod varint;
 
 // The Key ID of a track, and the two numbers of an object in it, which cannot be exchanged.
-#[derive(Drop)]
+#[derive(Clone, Copy)]
 pub struct KeyId(pub u64);
 
-#[derive(Drop)]
+#[derive(Clone, Copy)]
 pub struct GroupId(pub u64);
 
-#[derive(Drop)]
+#[derive(Clone, Copy)]
 pub struct ObjectId(pub u64);
 
 // The longest full track name.

@@ -17,7 +17,7 @@ use octets::{copy, read_be32, write_be32, write_be64};
 use std::num::wrapping_add_u32;
 
 // Eight words: a hash value, or the working variables a to h.
-#[derive(Drop)]
+#[derive(Clone, Copy)]
 pub struct Words256 {
     pub a: u32,
     pub b: u32,
@@ -31,7 +31,7 @@ pub struct Words256 {
 
 // The running hash: the hash value of the whole blocks fed, the bytes after them, and the number of
 // bytes fed in all.
-#[derive(Drop)]
+#[derive(Clone, Copy)]
 pub struct Sha256 {
     pub value: Words256,
     pub waiting: [u8; 64],

@@ -17,7 +17,7 @@ use octets::{copy, read_be64, write_be32, write_be64};
 use std::num::wrapping_add_u64;
 
 // Eight words: a hash value, or the working variables a to h.
-#[derive(Drop)]
+#[derive(Clone, Copy)]
 pub struct Words512 {
     a: u64,
     b: u64,
@@ -31,7 +31,7 @@ pub struct Words512 {
 
 // The running hash: the hash value of the whole blocks fed, the bytes after them, and the number of
 // bytes fed in all.
-#[derive(Drop)]
+#[derive(Clone, Copy)]
 pub struct Sha512 {
     value: Words512,
     waiting: [u8; 128],

@@ -19,7 +19,7 @@ use suites::sizes::Suite;
 pub const MAX_RECORDS: usize = 1024;
 
 // Where a record stands: the number of the record, or nowhere.
-#[derive(Drop)]
+#[derive(Clone, Copy)]
 pub enum Place {
     At(usize),
     Nowhere,

@@ -11,7 +11,7 @@ use key_record::{Kind, row};
 use store::Place;
 
 // What a search by a caller answers: its number, and the place.
-#[derive(Drop)]
+#[derive(Clone, Copy)]
 pub struct Located {
     pub number: u32,
     pub place: usize,

@@ -4,7 +4,7 @@ ghost use Rattle.std.specs.Prelude.{◌≡◌};
 ghost use Rattle.suites.specs.Suites.{suite_of, number_of, mode_of, hash_of, params_of, cipher_key_size, Nh, Nk, Nn, Nt};
 
 // AES_128_CTR_HMAC_SHA256_80
-#[derive(Drop)]
+#[derive(Clone, Copy)]
 pub struct Aes128CtrHmacSha256Tag80;
 
 impl Aes128CtrHmacSha256Tag80 {
@@ -22,7 +22,7 @@ impl Aes128CtrHmacSha256Tag80 {
 }
 
 // AES_128_CTR_HMAC_SHA256_64
-#[derive(Drop)]
+#[derive(Clone, Copy)]
 pub struct Aes128CtrHmacSha256Tag64;
 
 impl Aes128CtrHmacSha256Tag64 {
@@ -40,7 +40,7 @@ impl Aes128CtrHmacSha256Tag64 {
 }
 
 // AES_128_CTR_HMAC_SHA256_32
-#[derive(Drop)]
+#[derive(Clone, Copy)]
 pub struct Aes128CtrHmacSha256Tag32;
 
 impl Aes128CtrHmacSha256Tag32 {
@@ -58,7 +58,7 @@ impl Aes128CtrHmacSha256Tag32 {
 }
 
 // AES_128_GCM_SHA256_128
-#[derive(Drop)]
+#[derive(Clone, Copy)]
 pub struct Aes128GcmSha256;
 
 impl Aes128GcmSha256 {
@@ -74,7 +74,7 @@ impl Aes128GcmSha256 {
 }
 
 // AES_256_GCM_SHA512_128
-#[derive(Drop)]
+#[derive(Clone, Copy)]
 pub struct Aes256GcmSha512;
 
 impl Aes256GcmSha512 {
@@ -91,7 +91,7 @@ impl Aes256GcmSha512 {
 
 // A suite, by what tells it from the others: counter mode with HMAC and a tag of 80, 64 or 32 bits, or GCM with a key
 // of 128 or 256 bits.
-#[derive(Drop)]
+#[derive(Clone, Copy)]
 pub enum Suite {
     Ctr80,
     Ctr64,
@@ -101,21 +101,21 @@ pub enum Suite {
 }
 
 // How a suite encrypts and authenticates: AES-CTR with HMAC, or AES-GCM.
-#[derive(Drop)]
+#[derive(Clone, Copy)]
 pub enum Mode {
     CtrHmac,
     Gcm,
 }
 
 // The hash of a suite's key derivation.
-#[derive(Drop)]
+#[derive(Clone, Copy)]
 pub enum Hash {
     Sha256,
     Sha512,
 }
 
 // The suite of a number, or that it is none's.
-#[derive(Drop)]
+#[derive(Clone, Copy)]
 pub enum Found {
     Known(Suite),
     Unknown,

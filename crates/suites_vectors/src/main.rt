@@ -16,14 +16,14 @@ use suites::sizes::Aes128CtrHmacSha256Tag80;
 // The bytes of a salt and of a nonce.
 const NN: usize = Aes128CtrHmacSha256Tag80::NN;
 
-#[derive(Drop)]
+#[derive(Clone, Copy)]
 struct Tally {
     right: u64,
     wrong: u64,
 }
 
 // What a line tells of: an AEAD case, a case of GCM's own, an SFrame case with its three steps, or nothing.
-#[derive(Drop)]
+#[derive(Clone, Copy)]
 enum Line {
     Aead(bool),
     Gcm(bool),

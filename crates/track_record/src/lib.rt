@@ -39,14 +39,14 @@ const RECEIVER: u8 = 2;
 const RETIRED: u8 = 3;
 
 // What a track is added for.
-#[derive(Drop)]
+#[derive(Clone, Copy)]
 pub enum Role {
     Sending,
     Receiving,
 }
 
 // What a record that is not empty is for.
-#[derive(Drop)]
+#[derive(Clone, Copy)]
 pub enum Kind {
     Sender,
     Receiver,
@@ -54,7 +54,7 @@ pub enum Kind {
 }
 
 // What a record holds: a track, with what it is for and its suite, or nothing.
-#[derive(Drop)]
+#[derive(Clone, Copy)]
 pub enum Held {
     Track(Kind, Suite),
     Nothing,

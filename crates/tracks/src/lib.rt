@@ -20,7 +20,7 @@ use track_record::{Held, Kind, RECORD_SIZE, Role, judging, row};
 pub const MAX_RECORDS: usize = 16;
 
 // Where a record stands: the number of the record, or nowhere.
-#[derive(Drop)]
+#[derive(Clone, Copy)]
 pub enum Place {
     At(usize),
     Nowhere,

@@ -9,7 +9,7 @@ ghost use Rattle.window.specs.Window.{span, bit, fits, seen, too_old, moved, ope
 const SPAN: u64 = 64;
 
 // The highest counter that was opened, and bit i for the one i below it. With no bit set none was opened yet.
-#[derive(Drop)]
+#[derive(Clone, Copy)]
 pub struct Window {
     pub highest: u64,
     pub mask: u64,
