@@ -139,9 +139,9 @@ module _ (E bits : ℕ) where
       let m = others-most rs in
       let l : length (others E bits rs ++ replicate n empty) ≡ length rs = simp (length-append, length-replicate) (omega arith) in
       record {
-        table = changed-table rs (others E bits rs ++ replicate n empty) t l (padded-fit (others E bits rs) n (others-fit rs t.fit)) (padded-ordered rs n t.in_order);
+        table = changed-table rs (others E bits rs ++ replicate n empty) t l (padded-fit (others E bits rs) n (others-fit rs t.fit)) (padded-ordered rs n t.in_order_lem);
         same_length = l;
-        found = λ k. padded-get k rs n t.in_order;
+        found = λ k. padded-get k rs n t.in_order_lem;
       }
 
   -- ---- the call

@@ -50,8 +50,8 @@ ctr-below bytes o = by (read_header bytes) refl
 
 moved-in-range : (w : Window) (ctr : ℕ) → InRange w → seen w ctr ≡ false → too_old w ctr ≡ false → ctr < 2 ^ 64 → InRange (moved w ctr)
 moved-in-range w ctr f a b h =
-    let m = moved-below w ctr f.in_order a b h f.highest-below f.mask_below in
-    record { in_order_lem = moved-fits w ctr f.in_order a b; highest-below = m.0; mask_below = m.1 }
+    let m = moved-below w ctr f.in_order_lem a b h f.highest-below f.mask_below in
+    record { in_order_lem = moved-fits w ctr f.in_order_lem a b; highest-below = m.0; mask_below = m.1 }
 
 moved_holds : (kid : ℕ) (r : ReceivingKey) (w v : Window) → holds kid (receiving r w) ≡ true → holds kid (receiving r v) ≡ true
 unfolding holds

@@ -270,7 +270,7 @@ fit-fits : (r : KeyRecord) → Fit r → fits r ≡ true
 unfolding fits
 fit-fits empty f = refl
 fit-fits (sending r) f = both-and _ _ f.0.known (le-leb r.counter ceiling f.0.counter-most)
-fit-fits (receiving r w) f = both-and _ _ f.0.known f.2.in_order
+fit-fits (receiving r w) f = both-and _ _ f.0.known f.2.in_order_lem
 fit-fits (retired r) f = both-and _ _ f.known (le-leb r.counter ceiling f.counter-most)
 
 pub fits-obeys : (r : KeyRecord) → Fit r → obeys (encode r) ≡ true

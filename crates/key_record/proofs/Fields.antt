@@ -264,7 +264,7 @@ window-read l w h e = e ∙ by (read l)
 pub fit-window : (r : KeyRecord) → Fit r → is_receiving r ≡ true → Replay.fits (window_of r) ≡ true
 fit-window empty f e = absurd (false≢true e)
 fit-window (sending r) f e = absurd (false≢true e)
-fit-window (receiving r w) f e = f.2.in_order
+fit-window (receiving r w) f e = f.2.in_order_lem
 fit-window (retired r) f e = absurd (false≢true e)
 
 module _ (l : List ℕ) (o : Octets l) (w : Row l) (h : is_receiving (decode l) ≡ true) (ctr : ℕ) where

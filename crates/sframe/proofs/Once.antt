@@ -220,7 +220,7 @@ module _ (cipher : Cipher) (laws : Laws cipher) where
       by (OpenStep.done r w p) =
           let kid = read_kid (read_header bytes) in
           let ctr = read_ctr (read_header bytes) in
-          let f = p.in-range.in_order in
+          let f = p.in-range.in_order_lem in
           let g : All (Stops w) (since kid h.log) = rw p.found at (v.guarded kid) in
           puts h v _ _ (opened (record { kid = kid; ctr = ctr })) kid (receiving r (moved w ctr)) (put kid (receiving r (moved w ctr)) v.table) p.change p.store_is (happened _ _ p.answers)
           (λ k d. rw (ne_eqb kid k (λ e. d (sym e))))

@@ -34,7 +34,7 @@ pub record Table (rs : List KeyRecord) : Type 0 where
 
 -- no two of them share a Key ID
 pub kids-apart : {rs : List KeyRecord} → Table rs → apart rs ≡ true
-kids-apart {rs} t = ordered-apart rs t.in_order
+kids-apart {rs} t = ordered-apart rs t.in_order_lem
 
 pub record Right (n : ℕ) : Type 0 where
   pub least : record_size ≤ n
@@ -124,7 +124,7 @@ table-sound rs t =
     let q : length (encode_all rs) / record_size ≡ length rs = omega arith in
     both-and _ _
     (right-length (length (encode_all rs)) (record { least = omega (arith, t.some); most = omega (arith, t.most); whole = omega arith }))
-    (both-and _ _ (ap (λ (k : ℕ). all_obey k (encode_all rs)) q ∙ all-obey rs t.fit) (ap ordered (table-records rs t.fit) ∙ t.in_order))
+    (both-and _ _ (ap (λ (k : ℕ). all_obey k (encode_all rs)) q ∙ all-obey rs t.fit) (ap ordered (table-records rs t.fit) ∙ t.in_order_lem))
 
 -- ---- a store and its table
 
@@ -255,15 +255,15 @@ changed-table rs new t n f o = record { fit = f; in_order_lem = o; some = omega 
 module _ (kid : ℕ) (rs : List KeyRecord) (t : Table rs) where
   pub put-change : (r : KeyRecord) → Fit r → holds kid r ≡ true → is_empty (get kid rs) ≡ false → Change kid r rs (put kid r rs)
   put-change r f h n = record {
-    table = changed-table rs (put kid r rs) t (put-length kid r rs) (put_fit kid r rs f t.fit) (put-ordered kid r h rs ∙ t.in_order);
+    table = changed-table rs (put kid r rs) t (put-length kid r rs) (put_fit kid r rs f t.fit) (put-ordered kid r h rs ∙ t.in_order_lem);
     at-kid = put_same kid r rs h n;
     elsewhere = λ k d. put_other kid k r rs h d;
   }
 
   pub without-change : Change kid empty rs (without kid rs)
   without-change = record {
-    table = changed-table rs (without kid rs) t (without-length kid rs) (without-fit kid rs t.fit) (without-ordered kid rs t.in_order);
-    at-kid = without-same kid rs t.in_order;
+    table = changed-table rs (without kid rs) t (without-length kid rs) (without-fit kid rs t.fit) (without-ordered kid rs t.in_order_lem);
+    at-kid = without-same kid rs t.in_order_lem;
     elsewhere = λ k d. without_other kid k rs d;
   }
 
@@ -271,7 +271,7 @@ module _ (kid : ℕ) (rs : List KeyRecord) (t : Table rs) where
   insert-change r f h n e =
       let m = empty-is (get kid rs) n in
       record {
-        table = changed-table rs (insert r rs) t (insert-length r rs) (insert-fit r rs f t.fit) (insert-ordered kid r h rs m t.in_order);
-        at-kid = insert-same kid r h rs m t.in_order e;
-        elsewhere = λ k d. insert-other kid r h k rs d m t.in_order e;
+        table = changed-table rs (insert r rs) t (insert-length r rs) (insert-fit r rs f t.fit) (insert-ordered kid r h rs m t.in_order_lem);
+        at-kid = insert-same kid r h rs m t.in_order_lem e;
+        elsewhere = λ k d. insert-other kid r h k rs d m t.in_order_lem e;
       }

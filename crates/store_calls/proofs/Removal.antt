@@ -92,7 +92,7 @@ module _ (s : List ℕ) (kid : ℕ) (is-sound : sound s ≡ true) where
         by (retired y) g e = let z : ◌≡◌ {A = ℕ} 0 1 = cc in absurd (omega arith)
         by (receiving y w) g e =
             let v = outcome-of (receiving y w) g in
-            (sym (ap (λ (x : Outcome). x.number) v), a ∙ ap encode_all (sym (without_at kid (records s) i (sound-stored s o is-sound).table.in_order found.2)) ∙ sym (ap (λ (x : Outcome). x.store) v))
+            (sym (ap (λ (x : Outcome). x.number) v), a ∙ ap encode_all (sym (without_at kid (records s) i (sound-stored s o is-sound).table.in_order_lem found.2)) ∙ sym (ap (λ (x : Outcome). x.store) v))
 
     pub sender-sends : k ≡ Sender → is_sending (get_or (records s) i empty) ≡ true
     sender-sends z = kind-sends (get_or (records s) i empty) (sym is ∙ z)

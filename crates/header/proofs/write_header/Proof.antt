@@ -29,7 +29,7 @@ to-write-be-at c = c.before.before.before.before.before.before
 returns : tie.Need-returns
 returns c =
     let at-start = to-start-from-no-room c in
-    let k = c.before.before.width_of_lem.ensures in
+    let k = c.before.before.width_of.ensures in
     let n = c.before.width-of2.ensures in
     let q = no_room _ _ _ _ at-start.args.out.now k.0 n.0 c.if1.true in
     (q.0, (q.1, header-most _ _ _ _ at-start.args.out.now k.0 n.0 k.1 n.1))
@@ -54,7 +54,7 @@ returns-2 c =
     let at-fits = to-fits at-write-be-at in
     let at-start = to-start-from-fits at-fits in
     let a = at-start.args in
-    let k = at-fits.before.before.width_of_lem.ensures in
+    let k = at-fits.before.before.width_of.ensures in
     let n = at-fits.before.width-of2.ensures in
     let q = wrote _ _ _ _ a.out.now k.0 n.0 _ _ _ (config-of _ _ _ _ at-write-be-at.before.before.before.bits_of.ensures.0 at-write-be-at.before.before.bits-of2.ensures.0) at-write-be-at.write-be-at.ensures c.before.before.write-be-at2.ensures at-fits.if1.left in
     (q.0, (q.1, header-most _ _ _ _ a.out.now k.0 n.0 k.1 n.1))

@@ -1,5 +1,5 @@
 -- SPDX-License-Identifier: MIT
--- `aes::schedule::sub_word_lem` meets its contract.
+-- `aes::schedule::sub_word` meets its contract.
 -- Assumes nothing.
 use borrow.Author.Rules.{rules}
 use native.Mathlib.Nat.{div-one}

@@ -32,7 +32,7 @@ to-else3 c = c.before.before.before.before
 -- ---- a record whose mark is known and whose fields fit
 
 held : (c : tie.Else3) → holding_mark (get_or (to-shared-slice-known-from-else3 c).before.args.row.now mark_at 0) ≡ true
-held c = told-true _ _ c.before.before.before.is_held_lem.ensures c.before.before.if2.false
+held c = told-true _ _ c.before.before.before.is_held.ensures c.before.before.if2.false
 
 fitting : (c : tie.Else3) → fields_fit (to-shared-slice-known-from-else3 c).before.args.row.now ≡ true
 fitting c = told-true _ _ c.before.fields_fit.ensures c.if3.false
@@ -47,12 +47,12 @@ returns c =
 returns-2 : tie.Need-returns-2
 returns-2 c =
     let at-shared-slice-known = to-shared-slice-known-from-then2 c in
-    judged-unknown at-shared-slice-known.before.args.row.now (λ i. omega (arith, at-shared-slice-known.shared-slice-known.given i)) at-shared-slice-known.before.pre c.before.before.before.if1.false (told-false _ _ c.before.is_held_lem.ensures c.if2.true)
+    judged-unknown at-shared-slice-known.before.args.row.now (λ i. omega (arith, at-shared-slice-known.shared-slice-known.given i)) at-shared-slice-known.before.pre c.before.before.before.if1.false (told-false _ _ c.before.is_held.ensures c.if2.true)
 
 returns-3 : tie.Need-returns-3
 returns-3 c =
     let at-shared-slice-known = to-shared-slice-known-from-then3 c in
-    judged-fields at-shared-slice-known.before.args.row.now (λ i. omega (arith, at-shared-slice-known.shared-slice-known.given i)) at-shared-slice-known.before.pre (told-true _ _ c.before.before.before.is_held_lem.ensures c.before.before.if2.false) (told-false _ _ c.before.fields_fit.ensures c.if3.true)
+    judged-fields at-shared-slice-known.before.args.row.now (λ i. omega (arith, at-shared-slice-known.shared-slice-known.given i)) at-shared-slice-known.before.pre (told-true _ _ c.before.before.before.is_held.ensures c.before.before.if2.false) (told-false _ _ c.before.fields_fit.ensures c.if3.true)
 
 returns-4 : tie.Need-returns-4
 returns-4 c =

@@ -17,12 +17,12 @@ to-is-held c = c.before.before.before.before
 returns : tie.Need-returns
 returns c =
     let at-start = to_start c in
-    holds-unheld at-start.args.row.now _ _ c.before.is_held_lem.ensures c.if1.true
+    holds-unheld at-start.args.row.now _ _ c.before.is_held.ensures c.if1.true
 
 returns-2 : tie.Need-returns-2
 returns-2 c =
     let at-is-held = to-is-held c in
-    holds-held at-is-held.before.before.before.args.row.now _ _ _ at-is-held.is_held_lem.ensures c.before.before.before.if1.false c.before.read-be64.ensures
+    holds-held at-is-held.before.before.before.args.row.now _ _ _ at-is-held.is_held.ensures c.before.before.before.if1.false c.before.read-be64.ensures
 
 pub holds-kid-spec : {M : Type 1} → statement M
 holds-kid-spec =
