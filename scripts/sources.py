@@ -309,14 +309,14 @@ class Program:
 
 
 def programs(crate, file):
-    """The wrong programs of an edit. Each begins with a line `program: LABEL`; with no such line the whole edit is one, and the
+    """The wrong programs of an edit. Each begins with a line `# program: LABEL`; with no such line the whole edit is one, and the
     file's name is its label. What stands on other lines than `file:`, `old:` and `new:` is a comment, as for `rt`."""
     found, where, old = [Program(crate, file.stem, file)], "", ""
     for line in file.read_text().splitlines():
-        if line.startswith("program: "):
+        if line.startswith("# program: "):
             if not found[-1].parts and not found[-1].grouped:
                 found.pop()
-            found.append(Program(crate, line[9:].strip(), file))
+            found.append(Program(crate, line[11:].strip(), file))
             found[-1].grouped = True
         elif line.startswith("file: "):
             where = line[6:]
