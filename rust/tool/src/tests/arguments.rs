@@ -254,7 +254,6 @@ fn what_may_be_a_key_is_not_repeated() {
     }
 }
 
-/// A slip of the fingers is told what is near.
 /// Bytes may be a key, and are not repeated; nor is an empty word, which would not be
 /// seen.
 #[test]
@@ -270,6 +269,7 @@ fn commands_that_are_no_words() {
     assert_eq!(told(&[b"help", b""]), "the command is an empty word");
 }
 
+/// A slip of the fingers is told what is near.
 #[test]
 fn near_names() {
     for (line, near) in [

@@ -154,7 +154,6 @@ fn a_full_disk() {
     );
 
     // A key, a store and a log likewise.
-    folder.done("seal ward --kid 200 --in key --out begun --log log");
     folder.write("log", &[1; 16 * 200]);
     for line in [
         "make large --keys 1024",
@@ -164,6 +163,20 @@ fn a_full_disk() {
     }
     assert_eq!(folder.read("log"), [1; 16 * 200]);
     for file in ["large", ".large.new", "small", ".log.new"] {
+        assert!(!folder.path(file).exists(), "{file}");
+    }
+}
+
+/// A log that was begun as one stays as it was, too.
+#[test]
+fn a_full_disk_and_a_log_that_was_begun() {
+    let folder = folder("full-log");
+    folder.done("seal ward --kid 200 --in key --out begun --log log");
+    folder.write("log", &[1; 16 * 200]);
+    let line = "seal ward --kid 200 --in key --out small --log log";
+    assert_eq!(on_a_full_disk(&folder, line).status.code(), Some(74));
+    assert_eq!(folder.read("log"), [1; 16 * 200]);
+    for file in ["small", ".log.new"] {
         assert!(!folder.path(file).exists(), "{file}");
     }
 }
