@@ -7,7 +7,10 @@
 ghost use Rattle.std.specs.Prelude.{◌≡◌, ◌≤◌, ◌<◌, length};
 
 use header::{Ctr, Kid, Reading, Written};
-use libc::{STDIN_FILENO, STDOUT_FILENO};
+use std::io::{self, Read};
+
+// The most bytes of standard input that are judged.
+const MOST: u64 = 65536;
 
 // The longest line of bytes that is kept: a header is at most 17.
 const ROOM: usize = 32;
@@ -299,16 +302,12 @@ fn counted(t: Tally, right: bool) -> Tally {
     }
 }
 
-fn print(name: &[u8], t: Tally) {
-    io::write_all(STDOUT_FILENO, name);
-    io::print_decimal(STDOUT_FILENO, t.right);
-    io::write_all(STDOUT_FILENO, b" right, ");
-    io::print_decimal(STDOUT_FILENO, t.wrong);
-    io::write_all(STDOUT_FILENO, b" wrong\n");
+fn print(rt: &impl Print, name: &str, t: Tally) -> io::Result<()> {
+    println!(rt; "{name}{} right, {} wrong", t.right, t.wrong)
 }
 
 // Judges each line of s, and prints the groups' counts.
-fn run(s: &[u8]) {
+fn run(rt: &impl Print, s: &[u8]) -> io::Result<()> {
     let mut vectors = Tally { right: 0, wrong: 0 };
     let mut edges = Tally { right: 0, wrong: 0 };
     let mut longer = Tally { right: 0, wrong: 0 };
@@ -325,10 +324,10 @@ fn run(s: &[u8]) {
         }
         i = e;
     }
-    print(b"vectors: ", vectors);
-    print(b"edges: ", edges);
-    print(b"longer: ", longer);
-    print(b"refused: ", refused);
+    print(rt, "vectors: ", vectors)?;
+    print(rt, "edges: ", edges)?;
+    print(rt, "longer: ", longer)?;
+    print(rt, "refused: ", refused)
 }
 
 // Judges each line of s as a frame.
@@ -343,10 +342,15 @@ fn frames(s: &[u8]) -> Tally {
     t
 }
 
-fn main() {
-    let mut input = io::large_buffer();
-    let got = libc::read(STDIN_FILENO, &mut input);
-    let n = io::count(got, &input);
-    run(&input[..n]);
-    print(b"frames: ", frames(&input[..n]));
+// The front of standard input, as far as it is judged.
+fn front(rt: &(impl Input + AllocGlobal)) -> io::Result<Vec<u8>> {
+    let mut input = Vec::new(rt.alloc());
+    rt.reader().take(MOST).read_to_end(&mut input)?;
+    Ok(input)
+}
+
+fn main(rt: HostRuntime) -> io::Result<()> {
+    let input = front(&rt)?;
+    run(&rt, &input)?;
+    print(&rt, "frames: ", frames(&input))
 }

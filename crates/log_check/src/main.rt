@@ -3,18 +3,20 @@
 // cannot be read to its end it writes nothing, and says so on standard error.
 #![tactic(auto)]
 
-ghost use Rattle.io.specs.Counts.{IsPrefixLen};
+ghost use Rattle.std.specs.Counts.{IsPrefixLen};
 
-use libc::{STDIN_FILENO, STDOUT_FILENO};
 use pair_log::{MAX_LOG, MAX_REPORT};
+use std::alloc::Global;
+use std::io::{self, Read};
 
 // One byte more than the longest log has, so that a longer one is seen to be.
 const ROOM: usize = MAX_LOG + 1;
 
-// Whether standard input has ended, as a further read tells.
-fn at_end() -> bool {
-    let mut next = [0u8; 1];
-    libc::read(STDIN_FILENO, &mut next) == 0
+// The log on the input, or its front where it is too long.
+fn read_log<R: Read + Drop>(alloc: Global, input: R) -> io::Result<Vec<u8>> {
+    let mut log = Vec::new(alloc);
+    input.take(ROOM as u64).read_to_end(&mut log)?;
+    Ok(log)
 }
 
 // Puts the report of a log at the start of text, and answers how many bytes it has.
@@ -25,16 +27,34 @@ fn report(log: &[u8], text: &mut [u8]) -> usize
     answer.length
 }
 
-fn main() {
-    let mut log = [0u8; ROOM];
-    let n = io::read_full(STDIN_FILENO, &mut log);
-    if n < ROOM && !at_end() {
-        os::fail(b"log_check: standard input");
-        return;
+// Why the system refused, without its number for that.
+fn reason(said: &str) -> &str {
+    match said.split_once(" (os error ") {
+        Some((words, _)) => words,
+        None => said,
     }
+}
+
+// Writes a line to standard error: what failed, and why.
+fn fail(rt: &(impl Eprint + AllocGlobal), what: &str, error: io::Error) {
+    let _ = match format!(in rt.alloc(); "{error}") {
+        Ok(said) => eprintln!(rt; "log_check: {what}: {}", reason(&said)),
+        Err(_) => eprintln!(rt; "log_check: {what}: {error}"),
+    };
+}
+
+// Writes the report of a log to standard output.
+fn write_report(rt: &(impl Print + Eprint + AllocGlobal), log: &[u8]) {
     let mut text = [0u8; MAX_REPORT];
-    let length = report(&log[..n], &mut text);
-    if !io::write_all(STDOUT_FILENO, &text[..length]) {
-        os::fail(b"log_check: standard output");
+    let length = report(log, &mut text);
+    if let Err(error) = rt.write_all(&text[..length]) {
+        fail(rt, "standard output", error);
+    }
+}
+
+fn main(rt: HostRuntime) {
+    match read_log(rt.alloc(), rt.reader()) {
+        Ok(log) => write_report(&rt, &log),
+        Err(error) => fail(&rt, "standard input", error),
     }
 }

@@ -4,14 +4,17 @@
 #![tactic(auto)]
 
 ghost use Rattle.std.specs.Prelude.{◌≡◌, ◌≤◌, ◌<◌, length};
-ghost use Rattle.io.specs.Counts.{IsPrefixLen};
+ghost use Rattle.std.specs.Counts.{IsPrefixLen};
 
 use header::{Ctr, Kid, Written};
-use libc::{STDIN_FILENO, STDOUT_FILENO};
 use sframe_test::cipher_suites::{
     sframe_test_derive, sframe_test_suite_decrypt, sframe_test_suite_encrypt,
 };
+use std::io::{self, Read};
 use suites::sizes::Aes128CtrHmacSha256Tag80;
+
+// The most bytes of standard input that are judged.
+const MOST: u64 = 65536;
 
 // The bytes of a salt and of a nonce.
 const NN: usize = Aes128CtrHmacSha256Tag80::NN;
@@ -360,16 +363,12 @@ fn counted(t: Tally, right: bool) -> Tally {
     }
 }
 
-fn print(name: &[u8], t: Tally) {
-    io::write_all(STDOUT_FILENO, name);
-    io::print_decimal(STDOUT_FILENO, t.right);
-    io::write_all(STDOUT_FILENO, b" right, ");
-    io::print_decimal(STDOUT_FILENO, t.wrong);
-    io::write_all(STDOUT_FILENO, b" wrong\n");
+fn print(rt: &impl Print, name: &str, t: Tally) -> io::Result<()> {
+    println!(rt; "{name}{} right, {} wrong", t.right, t.wrong)
 }
 
 // Judges each line of s, and prints the groups' counts.
-fn run(s: &[u8]) {
+fn run(rt: &impl Print, s: &[u8]) -> io::Result<()> {
     let mut aeads = Tally { right: 0, wrong: 0 };
     let mut gcms = Tally { right: 0, wrong: 0 };
     let mut keys = Tally { right: 0, wrong: 0 };
@@ -390,16 +389,21 @@ fn run(s: &[u8]) {
         }
         i = e;
     }
-    print(b"D.2, encryption and decryption: ", aeads);
-    print(b"GCM test cases, suites 4 and 5: ", gcms);
-    print(b"D.3, key and salt: ", keys);
-    print(b"D.3, nonce: ", nonces);
-    print(b"D.3, frame: ", frames);
+    print(rt, "D.2, encryption and decryption: ", aeads)?;
+    print(rt, "GCM test cases, suites 4 and 5: ", gcms)?;
+    print(rt, "D.3, key and salt: ", keys)?;
+    print(rt, "D.3, nonce: ", nonces)?;
+    print(rt, "D.3, frame: ", frames)
 }
 
-fn main() {
-    let mut input = io::large_buffer();
-    let got = libc::read(STDIN_FILENO, &mut input);
-    let n = io::count(got, &input);
-    run(&input[..n]);
+// The front of standard input, as far as it is judged.
+fn front(rt: &(impl Input + AllocGlobal)) -> io::Result<Vec<u8>> {
+    let mut input = Vec::new(rt.alloc());
+    rt.reader().take(MOST).read_to_end(&mut input)?;
+    Ok(input)
+}
+
+fn main(rt: HostRuntime) -> io::Result<()> {
+    let input = front(&rt)?;
+    run(&rt, &input)
 }
