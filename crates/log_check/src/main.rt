@@ -3,7 +3,9 @@
 // cannot be read to its end it writes nothing, and says so on standard error.
 #![tactic(auto)]
 
+ghost use Rattle.std.specs.Prelude.{◌≡◌, ◌+◌, IfOk, IfSome, take};
 ghost use Rattle.std.specs.Counts.{IsPrefixLen};
+ghost use Rattle.pair_log.specs.Report.{max_log};
 
 use pair_log::{MAX_LOG, MAX_REPORT};
 use std::alloc::Global;
@@ -13,7 +15,9 @@ use std::io::{self, Read};
 const ROOM: usize = MAX_LOG + 1;
 
 // The log on the input, or its front where it is too long.
-fn read_log<R: Read + Drop>(alloc: Global, input: R) -> io::Result<Vec<u8>> {
+fn read_log<R: Read + Drop>(alloc: Global, input: R) -> io::Result<Vec<u8>>
+    ensures { IfOk result (λ log. IfSome (R.remaining input) (λ xs. log.items ≡ take (max_log + 1) xs)) }
+{
     let mut log = Vec::new(alloc);
     input.take(ROOM as u64).read_to_end(&mut log)?;
     Ok(log)
