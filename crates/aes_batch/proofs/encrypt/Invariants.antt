@@ -1,0 +1,18 @@
+-- SPDX-License-Identifier: MIT
+use mathlib.Core.Path.{◌≡◌, refl}
+use mathlib.Core.List.{List}
+use Prim.Native.Nat.{ℕ, ◌+◌, ◌*◌, ◌-◌, ◌≤◌}
+use native.Mathlib.Omega.{arith}
+use lib.ListN.{length, get_or}
+use Rattle.aes.specs.Aes.{Nr}
+use Rattle.aes_rows.specs.Rows.{state_planes}
+use Rattle.aes_keys.specs.Inner.Keys.{rounds_at, size, key_of, planes_at}
+use Rattle.aes_batch.proofs.Ciphers.{Rounded, rounds-start, rounds-next, rounds-last}
+use borrow.Author.Rules.{rules}
+use Rattle.aes_batch.proofs.encrypt.Given as goal
+
+abbrev pub invariant-loop-r : goal.invariant-loop-r
+invariant-loop-r l = (1 ≤ l.r) × (l.r ≤ l.n) × (l.n ≤ 14) × (length l.q ≡ state_planes) × (l.n ≡ Nr (key_of l.ctx)) × (length l.ctx ≡ size) × Rounded (key_of l.ctx) l.initial.q (l.r - 1) l.q
+
+abbrev pub decreases-loop-r : goal.decreases-loop-r
+decreases-loop-r l = l.n - l.r

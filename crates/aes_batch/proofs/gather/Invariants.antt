@@ -1,0 +1,16 @@
+-- SPDX-License-Identifier: MIT
+use mathlib.Core.Path.{◌≡◌}
+use Prim.Native.Nat.{◌≤◌, ◌-◌}
+use native.Mathlib.Omega.{arith}
+use lib.ListN.{length, length-set}
+use Rattle.aes_rows.specs.Rows.{state_planes}
+use Rattle.aes_batch.specs.Inner.Batch.{Gathered}
+use Rattle.aes_batch.proofs.Unslicing.{gather-start, gather-next}
+use borrow.Author.Rules.{rules}
+use Rattle.aes_batch.proofs.gather.Given as goal
+
+abbrev pub invariant-loop-i : goal.invariant-loop-i
+invariant-loop-i l = (l.i ≤ 8) × (length l.w ≡ state_planes) × (length l.q ≡ state_planes) × Gathered l.i l.q l.w
+
+abbrev pub decreases-loop-i : goal.decreases-loop-i
+decreases-loop-i l = 8 - l.i

@@ -1,0 +1,18 @@
+-- SPDX-License-Identifier: MIT
+-- `aes::expand` meets its contract.
+-- Assumes nothing.
+use mathlib.Core.Path.{◌≡◌, refl, ap, ◌∙◌}
+use Prim.Native.Nat.{◌+◌, ◌-◌, ◌≤◌}
+use native.Mathlib.Omega.{arith}
+use borrow.Author.Rules.{rules}
+use lib.ListN.{length, take}
+use Rattle.aes.specs.Aes.{Nr}
+use Rattle.aes_block.specs.Inner.Context.{Table}
+use Rattle.aes_block.proofs.Contexts.{copy_step, copied, context}
+use Rattle.aes_block.proofs.expand.Given as goal
+
+abbrev pub invariant-loop-i : goal.invariant-loop-i
+invariant-loop-i l = (l.i ≤ 60) × (Table 256 l.ctx × (take l.i l.ctx ≡ take l.i l.w))
+
+abbrev pub decreases-loop-i : goal.decreases-loop-i
+decreases-loop-i l = 60 - l.i

@@ -1,0 +1,18 @@
+-- SPDX-License-Identifier: MIT
+-- `ghash::absorb` meets its contract: the loop's invariant: z is the hash after i blocks.
+-- Assumes nothing.
+use mathlib.Core.Path.{◌≡◌, refl}
+use mathlib.Core.List.{◌++◌}
+use Prim.Native.Nat.{◌-◌, ◌≤◌}
+use native.Mathlib.Omega.{arith}
+use Rattle.ghash.specs.Ghash.{absorb_blocks, absorb}
+use Rattle.ghash.specs.Inner.HashKey.{value_of, hash_key_of}
+use Rattle.ghash.proofs.Absorbing.{absorb-step, absorb-done}
+use borrow.Author.Rules.{rules}
+use Rattle.ghash.proofs.absorb.Given as goal
+
+abbrev pub invariant-loop-i : goal.invariant-loop-i
+invariant-loop-i l = (l.i ≤ l.n) × (value_of l.z ≡ absorb_blocks (hash_key_of l.t) (value_of l.initial.z) (l.a ++ l.b) l.i)
+
+abbrev pub decreases-loop-i : goal.decreases-loop-i
+decreases-loop-i l = l.n - l.i

@@ -1,0 +1,19 @@
+-- SPDX-License-Identifier: MIT
+-- `ghash::gather` meets its contract: the loop's invariant: the first k bytes are those from index i on.
+-- Assumes nothing.
+use mathlib.Core.Path.{◌≡◌, refl}
+use mathlib.Core.List.{◌++◌}
+use Prim.Native.Nat.{ℕ, ◌-◌, ◌≤◌, ◌<◌}
+use native.Mathlib.Omega.{arith}
+use borrow.Author.Count.{below_none}
+use lib.ListN.{length, get_or, drop, length-set}
+use Rattle.octets.proofs.Laws.{number-ext}
+use Rattle.ghash.proofs.Absorbing.{gather-step}
+use borrow.Author.Rules.{rules}
+use Rattle.ghash.proofs.gather.Given as goal
+
+abbrev pub invariant-loop-k : goal.invariant-loop-k
+invariant-loop-k l = (l.k ≤ 16) × ((length l.out ≡ 16) × ((j : ℕ) → j < l.k → get_or l.out j 0 ≡ get_or (drop l.i (l.a ++ l.b)) j 0))
+
+abbrev pub decreases-loop-k : goal.decreases-loop-k
+decreases-loop-k l = 16 - l.k

@@ -1,0 +1,7 @@
+-- SPDX-License-Identifier: MIT
+use borrow.Author.Rules.{rules}
+use Rattle.group.proofs.Steps.{bits-told}
+use Rattle.group.proofs.in_bits.Goals as goal
+
+pub returns : goal.returns
+returns c = bits-told _ _ _ c.above.ensures

@@ -1,0 +1,11 @@
+-- SPDX-License-Identifier: MIT
+use Rattle.sha2_common.specs.Sizes.{sha256}
+use Rattle.hmac.proofs.Steps.{keyed-new}
+use borrow.Author.Rules.{rules}
+use Rattle.hmac.proofs.with_sha256.HmacSha256.new.Goals as goal
+
+pub returns : goal.returns
+returns c =
+    let k = c.args.key.now in
+    let i = c.keyed-inner in
+    (keyed-new sha256 _ _ k _ c.block_key-block.ensures.0 i.ensures.0 c.keyed-outer.ensures.0, i.ensures.1, c.keyed-outer.ensures.1)

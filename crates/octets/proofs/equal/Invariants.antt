@@ -1,0 +1,15 @@
+-- SPDX-License-Identifier: MIT
+use mathlib.Core.Path.{sym, ◌≡◌, ap}
+use Prim.Native.Nat.{◌-◌, ◌≤◌}
+use native.Mathlib.Omega.{arith}
+use lib.ListN.{length, take}
+use borrow.Author.Rules.{rules}
+use Rattle.octets.proofs.Laws.{same-lengths, same_count}
+use Rattle.octets.proofs.Loops.{taken-all, differ-next, differ-before}
+use Rattle.octets.proofs.equal.Given as goal
+
+abbrev pub invariant-loop-i : goal.invariant-loop-i
+invariant-loop-i l = (l.i ≤ length l.a) × (l.differ ≡ 0 → take l.i l.a ≡ take l.i l.b) × (take l.i l.a ≡ take l.i l.b → l.differ ≡ 0)
+
+abbrev pub decreases-loop-i : goal.decreases-loop-i
+decreases-loop-i l = length l.a - l.i

@@ -1,0 +1,9 @@
+-- SPDX-License-Identifier: MIT
+use Rattle.piece_hash.proofs.Steps.{loaded}
+use native.Mathlib.Omega.{arith}
+use borrow.Author.Rules.{rules}
+use Rattle.piece_hash.proofs.load.Goals as goal
+
+pub returns : goal.returns
+returns c =
+    loaded c.args.b.now _ _ c.args.n (omega arith) c.words-value.ensures c.room-waiting.ensures

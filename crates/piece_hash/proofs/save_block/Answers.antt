@@ -1,0 +1,8 @@
+-- SPDX-License-Identifier: MIT
+use Rattle.piece_hash.proofs.Steps.{block-kept}
+use borrow.Author.Rules.{rules}
+use Rattle.piece_hash.proofs.save_block.Goals as goal
+
+pub returns : goal.returns
+returns c =
+    block-kept _ c.args.waiting.now _ _ _ c.store.ensures c.room-w.ensures c.put.ensures

@@ -1,0 +1,19 @@
+-- SPDX-License-Identifier: MIT
+use mathlib.Core.Path.{◌≡◌, refl, sym, ◌∙◌, ap}
+use mathlib.Core.List.{List, ◌++◌}
+use Prim.Native.Nat.{ℕ, ◌+◌, ◌*◌, ◌-◌, ◌/◌, ◌%◌, ◌≤◌}
+use native.Mathlib.Omega.{arith}
+use lib.ListN.{length, take, drop}
+use Rattle.aes_keys.specs.Inner.Keys.{key_of}
+use Rattle.gcm_batch.proofs.Batches.{part_length}
+use Rattle.piece_stream.specs.CounterFrom.{ctr_from}
+use Rattle.piece_stream.proofs.Laws.{counters-part, from-none, step, done}
+use borrow.Author.Rules.{rules}
+use Rattle.piece_stream.proofs.apply_from.Given as goal
+
+abbrev pub invariant-loop-i : goal.invariant-loop-i
+invariant-loop-i l = (l.i ≤ length l.input) × (length l.out ≡ length l.initial.out)
+    × (l.out ≡ ctr_from (key_of l.ctx) l.nonce l.count l.at (take l.i l.input) ++ drop l.i l.initial.out)
+
+abbrev pub decreases-loop-i : goal.decreases-loop-i
+decreases-loop-i l = length l.input - l.i

@@ -1,0 +1,8 @@
+-- SPDX-License-Identifier: MIT
+use Rattle.std.proofs.Common.{arith, rules}
+use Rattle.sha2_common.specs.Sha2.{zeros}
+use Rattle.sha256.proofs.padded_end.Goals as goal
+
+pub returns : goal.returns
+unfolding zeros
+returns c = omega arith

@@ -1,0 +1,17 @@
+-- SPDX-License-Identifier: MIT
+use Rattle.std.proofs.Common.{◌++◌, sym, refl, ap, ◌∙◌, arith, length-append, rules}
+use Rattle.sha2_common.specs.Sizes.{sha512}
+use Rattle.sha2_common.specs.Running.{room_of}
+use Rattle.sha2_common.proofs.Laws.{left-short}
+use Rattle.sha2_common.proofs.Steps.{left_over_lem}
+use Rattle.sha512.proofs.rest.Goals as goal
+
+pub returns-then-have-s-lt128 : goal.returns-then-have-s-lt128
+returns-then-have-s-lt128 c =
+    let a = c.args in
+    c.room.ensures ∙ ap (room_of sha512) (sym (left-short sha512 (omega arith) (a.front.now ++ a.s.now) (simp length-append (omega arith))))
+
+pub returns : goal.returns
+returns c =
+    let a = c.args in
+    c.room-2.ensures ∙ ap (room_of sha512) (left_over_lem sha512 (omega arith) a.front.now a.s.now _ (omega arith) (omega arith) refl)

@@ -1,0 +1,9 @@
+-- SPDX-License-Identifier: MIT
+use mathlib.Core.Path.{refl}
+use borrow.Author.Rules.{rules}
+use Rattle.window.specs.Window.{bit}
+use Rattle.window.proofs.bit_of.Goals as goal
+
+pub returns : goal.returns
+unfolding bit
+returns c = refl
