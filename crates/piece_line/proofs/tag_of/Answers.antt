@@ -1,0 +1,18 @@
+-- SPDX-License-Identifier: MIT
+use Rattle.suites.specs.Suites.{Nt}
+use lib.Seq.{take_all}
+use Rattle.suites.proofs.Laws.{gcm-sizes}
+use mathlib.Core.Path.{sym, ◌∙◌}
+use native.Mathlib.Omega.{arith}
+use borrow.Author.Rules.{rules}
+use Rattle.piece_line.proofs.tag_of.Goals as goal
+
+pub returns-in-CtrHmac : goal.returns-in-CtrHmac
+returns-in-CtrHmac c =
+    c.hmac_tag.ensures
+
+pub returns-in-Gcm : goal.returns-in-Gcm
+returns-in-Gcm c =
+    let s = c.args.suite in
+    let n = gcm-sizes s (sym c.mode.ensures ∙ c.in-Gcm.is) in
+    (take_all (Nt s) _ (omega (arith, c.gcm_tag.ensures.1, n)) ∙ c.gcm_tag.ensures.0, c.gcm_tag.ensures.1)

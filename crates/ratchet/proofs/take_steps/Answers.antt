@@ -1,0 +1,43 @@
+-- SPDX-License-Identifier: MIT
+use mathlib.Core.Path.{sym, ◌∙◌}
+use Prim.Native.Nat.{◌-◌}
+use native.Mathlib.Omega.{arith}
+use lib.ListN.{length}
+use borrow.Author.Rules.{rules}
+use Rattle.ratchet.proofs.Steps.{Walking, size_none, size-some, walked_none, walk-starts, walk-goes-on, walk_ends}
+use Rattle.ratchet.proofs.take_steps.Goals as goal
+
+pub copy-requires : goal.copy-requires
+copy-requires c =
+    let a = c.args in
+    omega (arith, size_none a.suite (length a.base.now) a.steps c.if-steps-eq0.true, c.requires.1)
+
+pub returns-then-steps-eq0 : goal.returns-then-steps-eq0
+returns-then-steps-eq0 c =
+    let a = c.args in
+    walked_none a.suite a.base.now a.out.now _ a.steps c.if-steps-eq0.true c.requires.1 c.copy.ensures
+
+pub next_key-requires : goal.next_key-requires
+next_key-requires c =
+    let a = c.args in
+    (c.requires.0, c.requires.1 ∙ size-some a.suite (length a.base.now) a.steps c.if-steps-eq0.false)
+
+pub loop-i-init : goal.loop-i-init
+loop-i-init c =
+    let a = c.args in
+    walk-starts a.suite a.base.now _ a.steps c.if-steps-eq0.false c.next_key.ensures
+
+pub loop-i-preserved : goal.loop-i-preserved
+loop-i-preserved c =
+    let a = c.args in
+    walk-goes-on a.suite a.base.now c.loop-i.out _ a.steps c.loop-i.i c.loop-i.invariant c.loop-i-test.true c.step.ensures
+
+pub shape_of-out : goal.shape_of-out
+shape_of-out c =
+    let a = c.args in
+    c.loop-i.invariant.3 ∙ sym (c.requires.1 ∙ size-some a.suite (length a.base.now) a.steps c.if-steps-eq0.false)
+
+pub returns : goal.returns
+returns c =
+    let a = c.args in
+    walk_ends a.suite a.base.now c.loop-i.out a.steps c.loop-i.i c.loop-i.invariant c.loop-i-test.false

@@ -1,0 +1,19 @@
+-- SPDX-License-Identifier: MIT
+use mathlib.Core.Path.{refl}
+use mathlib.Core.Logic.{inl, inr}
+use native.Mathlib.Omega.{arith}
+use borrow.Author.Rules.{rules}
+use Rattle.sframe_test.proofs.hash.sframe_test_hkdf_sha512.Goals as goal
+
+pub returns-then-ikm-gt-LARGEST : goal.returns-then-ikm-gt-LARGEST
+returns-then-ikm-gt-LARGEST c = inr (refl, (λ t. omega arith), refl)
+
+pub returns-then-info-gt-LARGEST : goal.returns-then-info-gt-LARGEST
+returns-then-info-gt-LARGEST c = inr (refl, (λ t. omega arith), refl)
+
+pub returns-then-out-gt16320 : goal.returns-then-out-gt16320
+returns-then-out-gt16320 c = inr (refl, (λ t. omega arith), refl)
+
+pub returns : goal.returns
+returns c =
+    inl (refl, record { keyed = omega arith; informed = omega arith; limited = omega arith }, rw c.hkdf_extract_sha512-prk.ensures.0 at c.hkdf_expand_sha512.ensures)

@@ -1,0 +1,18 @@
+-- SPDX-License-Identifier: MIT
+use mathlib.Core.Path.{◌≡◌, refl, ap}
+use Prim.Native.Nat.{◌-◌, ◌/◌, ◌%◌, ◌≤◌}
+use native.Mathlib.Omega.{arith}
+use lib.ListN.{length, drop}
+use borrow.Author.Rules.{rules}
+use Rattle.tracks.proofs.Walk.{find-here, find-go, find-end, records-start}
+use Rattle.tracks.specs.Tracks.{decode_all, records}
+use Rattle.tracks.specs.Table.{get}
+use Rattle.track_record.specs.Layout.{record_size}
+use Rattle.track_record.specs.Record.{track_id}
+use Rattle.tracks.proofs.find.Given as goal
+
+abbrev pub invariant-loop-at : goal.invariant-loop-at
+invariant-loop-at l = (l.at ≤ length l.store) × (l.at % record_size ≡ 0) × (get (track_id l.name l.id.0) (decode_all (length l.store / record_size) l.store) ≡ get (track_id l.name l.id.0) (decode_all ((length l.store - l.at) / record_size) (drop l.at l.store)))
+
+abbrev pub decreases-loop-at : goal.decreases-loop-at
+decreases-loop-at l = length l.store - l.at

@@ -1,0 +1,16 @@
+-- SPDX-License-Identifier: MIT
+use mathlib.Core.Path.{◌≡◌, refl}
+use Prim.Native.Nat.{◌-◌, ◌/◌, ◌%◌, ◌≤◌}
+use native.Mathlib.Omega.{arith}
+use lib.ListN.{length, drop}
+use borrow.Author.Rules.{rules}
+use Rattle.tracks.proofs.Walk.{obey-stop, obey-go, obey-start, obey-end}
+use Rattle.tracks.specs.Tracks.{all_obey}
+use Rattle.track_record.specs.Layout.{record_size}
+use Rattle.tracks.proofs.rows_obey.Given as goal
+
+abbrev pub invariant-loop-at : goal.invariant-loop-at
+invariant-loop-at l = (l.at ≤ length l.store) × (l.at % record_size ≡ 0) × (all_obey (length l.store / record_size) l.store ≡ all_obey ((length l.store - l.at) / record_size) (drop l.at l.store))
+
+abbrev pub decreases-loop-at : goal.decreases-loop-at
+decreases-loop-at l = length l.store - l.at
