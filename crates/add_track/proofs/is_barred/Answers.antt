@@ -1,0 +1,13 @@
+-- SPDX-License-Identifier: MIT
+use Rattle.add_track.specs.Add.{barred}
+use mathlib.Core.Path.{sym, ap}
+use borrow.Author.Rules.{rules}
+use Rattle.add_track.proofs.is_barred.Goals as goal
+
+pub returns-in-Sending : goal.returns-in-Sending
+unfolding barred
+returns-in-Sending c = sym (ap (λ r. barred r c.args.suite) c.in-Sending.is)
+
+pub returns-in-Receiving : goal.returns-in-Receiving
+unfolding barred
+returns-in-Receiving c = sym (ap (λ r. barred r c.args.suite) c.in-Receiving.is)

@@ -1,0 +1,14 @@
+-- SPDX-License-Identifier: MIT
+use mathlib.Core.Path.{◌≡◌, refl}
+use Prim.Native.Nat.{◌-◌, ◌≤◌}
+use native.Mathlib.Omega.{arith}
+use lib.ListN.{length, take, replicate}
+use borrow.Author.Rules.{rules}
+use Rattle.key_record.proofs.Zeros.{any_next, any-before, any-done}
+use Rattle.key_record.proofs.judging.is_zero.Given as goal
+
+abbrev pub invariant-loop-i : goal.invariant-loop-i
+invariant-loop-i l = (l.i ≤ length l.b) × (l.any ≡ 0 → replicate l.i 0 ≡ take l.i l.b) × (replicate l.i 0 ≡ take l.i l.b → l.any ≡ 0)
+
+abbrev pub decreases-loop-i : goal.decreases-loop-i
+decreases-loop-i l = length l.b - l.i

@@ -1,0 +1,7 @@
+-- SPDX-License-Identifier: MIT
+use borrow.Author.Rules.{rules}
+use Rattle.key_record.proofs.Fields.{receives-told}
+use Rattle.key_record.proofs.row.is_receiving.Goals as goal
+
+pub returns : goal.returns
+returns c = receives-told c.args.row.now

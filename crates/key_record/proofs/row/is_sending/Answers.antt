@@ -1,0 +1,7 @@
+-- SPDX-License-Identifier: MIT
+use borrow.Author.Rules.{rules}
+use Rattle.key_record.proofs.Fields.{sends-told}
+use Rattle.key_record.proofs.row.is_sending.Goals as goal
+
+pub returns : goal.returns
+returns c = sends-told c.args.row.now

@@ -1,0 +1,33 @@
+-- SPDX-License-Identifier: MIT
+use mathlib.Core.Path.{refl, sym, ◌∙◌, ap}
+use Prim.Native.Nat.{ℕ, ◌+◌, ◌*◌, ◌<◌, ◌≤◌}
+use native.Mathlib.Omega.{arith}
+use lib.ListN.{length}
+use borrow.Author.Rules.{rules}
+use Rattle.key_record.specs.Layout.{record_size, encode, decode}
+use Rattle.key_record.specs.Record.{KeyRecord, is_sending, counter_of, advanced}
+use Rattle.key_record.specs.Inner.Rows.{kept}
+use Rattle.store.proofs.Places.{place_inside, place-row, place-changed}
+use Rattle.store.proofs.retire_at.Goals as goal
+
+pub overflow_mul-at : goal.overflow_mul-at
+overflow_mul-at c =
+    let inside : c.args.i * record_size + record_size ≤ length c.args.store.now = place_inside c.args.store.now c.args.i c.requires.0 in
+    omega (arith, inside)
+
+pub overflow_add-end : goal.overflow_add-end
+overflow_add-end c =
+    let inside : c.args.i * record_size + record_size ≤ length c.args.store.now = place_inside c.args.store.now c.args.i c.requires.0 in
+    omega (arith, inside)
+
+pub slice_bounds-retire-end : goal.slice_bounds-retire-end
+slice_bounds-retire-end c =
+    let inside : c.args.i * record_size + record_size ≤ length c.args.store.now = place_inside c.args.store.now c.args.i c.requires.0 in
+    omega (arith, inside)
+
+pub retire-requires : goal.retire-requires
+retire-requires c = let q = place-row c.args.store.now c.args.i c.requires.0 _ refl in (q.0, ap is_sending q.1 ∙ c.requires.1)
+
+pub returns : goal.returns
+returns c =
+    let q = place-row c.args.store.now c.args.i c.requires.0 _ refl in place-changed c.args.store.now c.args.i c.requires.0 _ refl (λ j. omega (arith, c.slice_known-1.given j)) _ _ _ refl (c.retire.ensures ∙ ap (λ (r : KeyRecord). encode (kept r)) q.1)
