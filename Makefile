@@ -71,7 +71,7 @@ packages:
 	@scripts/packages
 
 clean:
-	@echo "removing target and rust/target"
-	@rm -rf target rust/target
+	@echo "removing target, rust/target and the out/ of each crate"
+	@rm -rf target rust/target crates/*/out
 
 include packaging/install.mk
