@@ -9,7 +9,7 @@ all: libraries tools
 help:
 	@echo "make            proves and builds the libraries, and the tools sframe, moq and log_check"
 	@echo "make demo       the same, then shows a ward round, and a publisher and a subscriber"
-	@echo "make test       the whole gate: proofs from nothing, wrong programs, vectors, comparisons; 20 minutes or more"
+	@echo "make test       the whole gate: proofs, wrong programs, vectors, comparisons; an hour or more the first time"
 	@echo "make lint       its quick part with no proof: lists, layout, pinned promises, documents"
 	@echo "make libraries  target/staticlib/libsframe_c.a and libmoq_c.a"
 	@echo "make tools      rust/target/release/sframe and moq, target/bin/log_check"
@@ -71,7 +71,7 @@ packages:
 	@scripts/packages
 
 clean:
-	@echo "removing target and rust/target"
-	@rm -rf target rust/target
+	@echo "removing target, rust/target and the out/ of each crate"
+	@rm -rf target rust/target crates/*/out
 
 include packaging/install.mk

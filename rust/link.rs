@@ -25,7 +25,7 @@ fn main() {
         // The linker looks for a library of this name, and says that there is none.
         None => println!(
             "cargo::rustc-link-lib=static:+verbatim={archive} (`make install` of a release installs it, \
-             `rt staticlib {library}` in the repository builds it; {})",
+             `scripts/libraries {library}` in the repository builds it; {})",
             match env::var("SFRAME_LIB_DIR") {
                 Ok(folder) => format!(
                     "it is not in SFRAME_LIB_DIR, {}",

@@ -62,7 +62,7 @@ def names(crate):
         if crate == owner or kind == "numbers":
             continue
         if kind == "names":
-            brings = re.compile(r"\buse Rattle·%s(?:·\w+)?\.[^;{]*\.\{([^}]*)\}" % owner)
+            brings = re.compile(r"\buse Rattle\.%s\.[^;{]*\.\{([^}]*)\}" % owner)
             folders = ("src", "specs", "proofs")
         else:
             brings, folders = re.compile(r"\b%s::(?:\w+::)*(\w+)" % owner), ("src",)

@@ -1,7 +1,8 @@
 # SPDX-License-Identifier: MIT
 # What a run that proves says while it does. Sourced at the root of the repository, behind scripts/tools.sh.
 
-# The crates that are needed to build those that are named, themselves among them: those that depend on nothing first.
+# The crates that are needed to build those that are named, themselves among them: those that depend on nothing first. With no
+# name, every crate.
 needed_crates() {
     awk -v wanted="$*" '
         function visit(name,    i, n, parts) {
@@ -20,41 +21,18 @@ needed_crates() {
         }' crates.txt
 }
 
-# About how long the proofs of these crates take from nothing on two cores, by the table of crates in docs/ARCHITECTURE.md; a
-# crate that is named twice counts twice.
-expected_time() {
-    awk -v wanted="$*" -F'|' '
-        BEGIN { n = split(wanted, names, " "); for (i = 1; i <= n; i++) needed[names[i]]++ }
-        /^\| `/ && $(NF - 1) ~ / s *$/ {
-            gsub(/[`,]/, "", $2); gsub(/[s,]/, "", $(NF - 1))
-            many = split($2, crates, " "); split($(NF - 1), times, " ")
-            for (i = 1; i <= many; i++) seconds += needed[crates[i]] * times[i]
-        }
-        END { many = int(seconds / 120 + 1); print many == 1 ? "a minute" : many " minutes" }' docs/ARCHITECTURE.md
-}
-
-# What an archive is made of, in a word: toolchain, its own crate, and the proved crates below. It stands beside the archive,
-# which is not built again as long as it is the same.
+# What an archive is made of, in a word: the toolchain, how it is built, and what its crate and those below it read. It stands beside
+# the archive, which is not built again as long as it is the same.
 made_of() {
-    local crate
+    local crate=$1 target=$2 name
     {
         rt version
-        find "crates/$1" -type f -exec sha256sum {} + | sort
-        for crate in $(needed_crates "$1"); do
-            [ "$crate" = "$1" ] || cat "target/stamp/$crate"
+        echo "$target"
+        for name in $(needed_crates "$crate"); do
+            grep "^$name[ :]" crates.txt
+            find "crates/$name/src" "crates/$name/specs" "crates/$name/proofs" -type f -exec sha256sum {} + 2>/dev/null | sort
         done
-    } 2>/dev/null | sha256sum | cut -d' ' -f1
-}
-
-# A root for the run of rt that builds an archive: crates and proofs are this one's, its logs are its own, since runs that share
-# them take each other's word for what is proved.
-archive_root() {
-    local root=$PWD/target/archive/$1 name
-    mkdir -p "$root/target" target/staticlib
-    for name in crates crates.txt target/rlib target/stamp target/staticlib; do
-        ln -sfn "$PWD/$name" "$root/$name"
-    done
-    echo "$root"
+    } | sha256sum | cut -d' ' -f1
 }
 
 # One line of progress: in place on a terminal, else a line of its own.
@@ -71,65 +49,46 @@ progress_done() {
     [ ! -t 1 ] || printf '\r\033[K'
 }
 
-# Runs a command of rt, its output in the file LOG, and says when each of the crates is proved, and each wrong program refused:
-# name, seconds, how many of how many. rt itself keeps this back until a whole level of crates is done. What is proved from
-# before is counted in silence. The command runs in front, so that an interrupt ends it.
-#     watched LOG "CRATE .." COMMAND..
+# Runs a command of rt, its output in the file LOG, and says when each crate is done, how many of how many. What was proved before
+# is counted in silence.
+#     watched LOG MANY COMMAND..
 watched() {
-    local log=$1 crates=$2 running watcher status
+    local log=$1 many=$2 statuses
     shift 2
-    running=$(mktemp)
-    if [ "$*" = "rt ci" ]; then
-        watch_for "$running" "$crates" crates/*/must-fail/*.edit &
-    else
-        watch_for "$running" "$crates" &
-    fi
-    watcher=$!
-    "$@" >"$log" 2>&1
-    status=$?
-    rm -f "$running"
-    wait "$watcher"
+    "$@" 2>&1 | tee "$log" | told "$many" "$2"
+    statuses=("${PIPESTATUS[@]}")
     progress_done
-    return "$status"
+    return "${statuses[0]}"
 }
 
-# Looks for what rt leaves of each crate and edit, as long as the file RUNNING is there and this script runs.
-watch_for() {
-    local running=$1 crates=$2 begun name file at many edits line last='' shown=$SECONDS more=1 files=() words=()
-    shift 2
-    begun=$(mktemp)
-    for name in $crates; do
-        files+=("target/log/$name.out") words+=("$name")
-    done
-    many=${#files[@]} edits=$#
-    for file in "$@"; do
-        name=${file#crates/} name=${name%.edit} name=${name/\/must-fail\//\/}
-        files+=("target/must-fail/$name.out") words+=("must-fail $name")
-    done
-    local done_crates=0 done_edits=0
-    while [ "$more" -eq 1 ]; do
-        if [ ! -e "$running" ] || ! kill -0 $$ 2>/dev/null; then more=0; fi
-        for at in "${!files[@]}"; do
-            [ "${files[at]}" -nt "$begun" ] || continue
-            line=$(grep -E "^rt: ${words[at]}(:| proved| NOT PROVED)" "${files[at]}" 2>/dev/null | tail -n 1)
-            [ -n "$line" ] || continue
-            unset "files[at]"
-            if [ "$at" -lt "$many" ]; then
+# Reads what rt says: `rt ci` has a line of its own for each crate, and `rt all check` the crate's name and behind it the verdict.
+told() {
+    local many=$1 how=$2 done_crates=0 name='' line
+    while IFS= read -r line; do
+        case $line in
+            '== '*) name=${line#== } ;;
+            logic=*)
+                # `rt ci` says it in a line of its own
+                [ "$how" = all ] || continue
+                done_crates=$((done_crates + 1)) line=${line#logic=}
+                progress "$done_crates of $many: $name ${line%% *}"
+                ;;
+            'rt: '*' is kept: '*) done_crates=$((done_crates + 1)) ;;
+            'rt: '*': its tests'* | 'rt: '*' its tests are '*) ;;
+            'rt: '*' proved' | 'rt: '*' NOT PROVED'*)
                 done_crates=$((done_crates + 1))
-                last="$done_crates of $many: ${line#rt: }"
-            else
-                done_edits=$((done_edits + 1))
-                last="$done_edits of $edits: ${line#rt: }"
-            fi
-            case $line in *' (unchanged'*) ;; *) progress "$last" ;; esac
-        done
-        # On a terminal the seconds go on.
-        if [ -t 1 ] && [ "$SECONDS" -ne "$shown" ]; then
-            shown=$SECONDS
-            progress "${last:-proving} [$SECONDS s so far]"
-        fi
-        sleep 0.2
+                progress "$done_crates of $many: ${line#rt: }"
+                ;;
+            'rt: '*': trying its must-fail edits '*) progress "${line#rt: }" ;;
+        esac
     done
-    # Where the script was interrupted, its own file is left.
-    rm -f "$begun" "$running"
+}
+
+# How many crates are checked at a time: one for each processor, and as many as memory holds.
+jobs_at_a_time() {
+    local jobs memory
+    jobs=$(nproc 2>/dev/null || echo 1)
+    memory=$(awk '/^MemAvailable:/ {print int($2 / 2500000)}' /proc/meminfo 2>/dev/null)
+    [ "${memory:-1}" -ge "$jobs" ] || jobs=${memory:-1}
+    echo "$((jobs < 1 ? 1 : jobs))"
 }

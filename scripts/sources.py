@@ -11,7 +11,7 @@ ROOT = Path(__file__).resolve().parent.parent
 CRATES = ROOT / "crates"
 
 # Words that stand before a name and do not change what it means.
-MARKS = {"pub", "abbrev", "unfoldable"}
+MARKS = {"pub", "abbrev", "unfoldable", "opaque"}
 # A name of antt: any run of other characters than these.
 TOKEN = re.compile(r'[^\s(){}.;,@"«»]+|"(?:\\.|[^"\\])*"|[(){}.;,@«»]')
 
@@ -30,9 +30,16 @@ def crates():
     """Each crate of crates.txt with the crates that it stands on."""
     found = {}
     for line in listed("crates.txt"):
-        name, _, rest = line.partition(":")
-        found[name.strip()] = rest.split()
+        head, _, rest = line.partition(":")
+        found[head.split()[0]] = rest.split()
     return found
+
+
+@functools.cache
+def static_libraries():
+    """The crates that are built for C and Rust to link."""
+    heads = (line.partition(":")[0].split() for line in listed("crates.txt"))
+    return [head[0] for head in heads if "staticlib" in head[1:]]
 
 
 def below(name, all_crates):
@@ -103,7 +110,7 @@ class Item:
         return bare(" ".join(self.context + [after]))
 
 
-SIGNATURE = re.compile(r"((?:(?:unfoldable|abbrev|axiom|pub) )*)(\S+)(?: \{[^}]*\})? :(?:\s|$)")
+SIGNATURE = re.compile(r"((?:(?:unfoldable|opaque|abbrev|axiom|pub) )*)(\S+)(?: \{[^}]*\})? :(?:\s|$)")
 USE = re.compile(r"(pub )?use ([^\s{]+?)(?:\.\{(.*)\}| as (\S+))?;?$", re.S)
 
 

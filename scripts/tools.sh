@@ -19,30 +19,26 @@ missing_tools() {
     return "$status"
 }
 
-# Has temporary files in memory, where there is enough of it, in a folder that is removed at the end. A check lays what it has
-# read of the logic and of the libraries into temporary files, some 270 MB: a gate writes 50 GB that way.
-scratch_in_memory() {
-    [ -z "${TMPDIR:-}" ] || return 0
-    awk '/^MemAvailable:/ {exit $2 < 8000000}' /proc/meminfo 2>/dev/null || return 0
-    [ "$(df -Pk /dev/shm 2>/dev/null | awk 'NR == 2 {print $4}')" -ge 4000000 ] 2>/dev/null || return 0
-    scratch=$(mktemp -d -p /dev/shm ruddoshan.XXXXXX 2>/dev/null) || return 0 # not local: the trap reads it
-    trap 'rm -rf "$scratch"' EXIT
-    # programs are run from there, by a user who owns nothing
-    chmod 711 "$scratch"
-    printf '#!/bin/sh\n' >"$scratch/trial" && chmod +x "$scratch/trial" && "$scratch/trial" 2>/dev/null && export TMPDIR=$scratch
-    rm -f "$scratch/trial"
+# The folder of the toolchain.
+kit() {
+    dirname "$(dirname "$(readlink -f "$(command -v rt)")")"
 }
 
-# How many checks run at a time, where nobody says it: more than there are processors, since those that are begun together wait
-# for the longest of them, and as many as memory takes.
-jobs_at_a_time() {
-    local kilobytes jobs
-    kilobytes=$(awk '/^MemAvailable:/ {print $2}' /proc/meminfo 2>/dev/null)
-    jobs=$((${kilobytes:-0} / 1500000))
-    echo $((jobs < 2 ? 2 : jobs > 12 ? 12 : jobs))
-}
-
-# Every static library of the repository, what C and Rust link and what only tests do: the crates that export functions.
+# Every static library of the repository, what C and Rust link and what only tests do: the crates that crates.txt says so of.
 static_libraries() {
-    grep -lr --include='*.rt' 'pub extern "C" fn ' crates | cut -d/ -f2 | sort -u
+    sed -n 's/#.*//; s/^\([a-z0-9_]*\) staticlib *:.*/\1/p' crates.txt
+}
+
+# The crate of a static library that is named as its archive is: libsframe_test.a is sframe_test_c's, since a crate is a library or
+# a static library.
+crate_of() {
+    if static_libraries | grep -qx "$1"; then echo "$1"; else echo "$1_c"; fi
+}
+
+# And the other way: what stands between lib and .a in the archive of a crate.
+archive_of() {
+    case $1 in
+        *_test_c) echo "${1%_c}" ;;
+        *) echo "$1" ;;
+    esac
 }

@@ -29,8 +29,7 @@ fn context(key: &[u8]) -> aes_keys::Context
 }
 
 // AES encryption of a block of 16 bytes, under a key of 16 or 32.
-#[unsafe(no_mangle)]
-pub extern "C" fn sframe_test_aes(key: &[u8], block: &[u8], out: &mut [u8]) -> u32
+pub fn sframe_test_aes(key: &[u8], block: &[u8], out: &mut [u8]) -> u32
     ensures { Judged 0 (AesTakes key.now block.now out.old) (out.new ≡ encrypt key.now block.now ++ drop 16 out.old) (out.new ≡ out.old) result }
 {
     if !key_taken(key) {
@@ -63,8 +62,7 @@ fn repeat(ctx: &aes_block::Context, n: u32, out: &mut [u8])
 }
 
 // AES encryption of a block n times over, on one context: for n large, the time of the block alone.
-#[unsafe(no_mangle)]
-pub extern "C" fn sframe_test_aes_repeat(key: &[u8], block: &[u8], n: u32, out: &mut [u8]) -> u32
+pub fn sframe_test_aes_repeat(key: &[u8], block: &[u8], n: u32, out: &mut [u8]) -> u32
     ensures { Judged 0 (AesRepeatTakes key.now block.now out.old) (out.new ≡ repeated (encrypt key.now) n block.now) (out.new ≡ out.old) result }
 {
     if !key_taken(key) {
@@ -83,14 +81,7 @@ pub extern "C" fn sframe_test_aes_repeat(key: &[u8], block: &[u8], n: u32, out: 
 }
 
 // input XOR the key stream of a nonce of 12 bytes that starts at the block count.
-#[unsafe(no_mangle)]
-pub extern "C" fn sframe_test_ctr(
-    key: &[u8],
-    nonce: &[u8],
-    count: u32,
-    input: &[u8],
-    out: &mut [u8],
-) -> u32
+pub fn sframe_test_ctr(key: &[u8], nonce: &[u8], count: u32, input: &[u8], out: &mut [u8]) -> u32
     ensures { Judged 0 (CtrTakes key.now nonce.now count input.now out.old) (out.new ≡ ctr key.now nonce.now count input.now ++ drop (length input.now) out.old) (out.new ≡ out.old) result }
 {
     if !key_taken(key) {
@@ -115,8 +106,7 @@ pub extern "C" fn sframe_test_ctr(
 }
 
 // GHASH under a hash key of 16 bytes, over the data filled up with zeros to whole blocks.
-#[unsafe(no_mangle)]
-pub extern "C" fn sframe_test_ghash(key: &[u8], input: &[u8], out: &mut [u8]) -> u32
+pub fn sframe_test_ghash(key: &[u8], input: &[u8], out: &mut [u8]) -> u32
     ensures { Judged 0 (GhashTakes key.now input.now out.old) (out.new ≡ bytes 16 (absorb (number 16 key.now) 0 input.now) ++ drop 16 out.old) (out.new ≡ out.old) result }
 {
     if key.len() != 16 {
@@ -172,8 +162,7 @@ fn gcm_tag(
 }
 
 // GCM encryption: the ciphertext, then the tag. The associated data are header and metadata.
-#[unsafe(no_mangle)]
-pub extern "C" fn sframe_test_gcm_seal(
+pub fn sframe_test_gcm_seal(
     key: &[u8],
     nonce: &[u8],
     header: &[u8],
@@ -199,8 +188,7 @@ pub extern "C" fn sframe_test_gcm_seal(
 }
 
 // The tag of GCM over a ciphertext.
-#[unsafe(no_mangle)]
-pub extern "C" fn sframe_test_gcm_tag(
+pub fn sframe_test_gcm_tag(
     key: &[u8],
     nonce: &[u8],
     header: &[u8],

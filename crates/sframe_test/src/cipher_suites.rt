@@ -37,14 +37,7 @@ fn derive_known(suite: Suite, base: &[u8], kid: u64, key: &mut [u8], salt: &mut 
 }
 
 // Fills key and salt from a base key of at most 64 bytes, for a suite and a KID.
-#[unsafe(no_mangle)]
-pub extern "C" fn sframe_test_derive(
-    suite: u64,
-    base: &[u8],
-    kid: u64,
-    key: &mut [u8],
-    salt: &mut [u8],
-) -> u32
+pub fn sframe_test_derive(suite: u64, base: &[u8], kid: u64, key: &mut [u8], salt: &mut [u8]) -> u32
     ensures { For (suite_of suite) (λ s. Judged 0 (DeriveTakes s base.now key.old salt.old) ((key.new ≡ sframe_key s base.now kid) × (salt.new ≡ sframe_salt s base.now kid)) ((key.new ≡ key.old) × (salt.new ≡ salt.old)) result) ((result ≡ 1) × (key.new ≡ key.old) × (salt.new ≡ salt.old)) }
 {
     match suites::sizes::find(suite) {
@@ -83,8 +76,7 @@ fn encrypt_known(
 }
 
 // Fills out with the ciphertext and the tag. The associated data are header and metadata.
-#[unsafe(no_mangle)]
-pub extern "C" fn sframe_test_suite_encrypt(
+pub fn sframe_test_suite_encrypt(
     suite: u64,
     key: &[u8],
     nonce: &[u8],
@@ -134,8 +126,7 @@ fn decrypt_known(
 }
 
 // Writes the plaintext of a ciphertext and its tag to the front of out, or answers 13.
-#[unsafe(no_mangle)]
-pub extern "C" fn sframe_test_suite_decrypt(
+pub fn sframe_test_suite_decrypt(
     suite: u64,
     key: &[u8],
     nonce: &[u8],

@@ -1,5 +1,5 @@
 // SPDX-License-Identifier: MIT
-// Hashes and derived keys for tests. Each exported function judges its input: it answers 0 and writes
+// Hashes and derived keys for tests. Each public function judges its input: it answers 0 and writes
 // the result to the front of the output, or it answers 1 and changes nothing. A message is fed in
 // three pieces, which end at first, at second and at its own end.
 ghost use Rattle.std.specs.Prelude.{◌≡◌, [], ◌++◌, ◌≤◌, length, drop};
@@ -38,13 +38,7 @@ fn hmac_sha256_pieces(key: &[u8], message: &[u8], first: usize, second: usize) -
     two.feed(&message[second..]).finish()
 }
 
-#[unsafe(no_mangle)]
-pub extern "C" fn sframe_test_sha256(
-    message: &[u8],
-    first: usize,
-    second: usize,
-    digest: &mut [u8],
-) -> u32
+pub fn sframe_test_sha256(message: &[u8], first: usize, second: usize, digest: &mut [u8]) -> u32
     ensures { Judged 0 (HashTakes maximum 32 message.now first second digest.old) (digest.new ≡ hash sha256 message.now ++ drop 32 digest.old) (digest.new ≡ digest.old) result }
 {
     if MAXIMUM < message.len() {
@@ -64,8 +58,7 @@ pub extern "C" fn sframe_test_sha256(
     0
 }
 
-#[unsafe(no_mangle)]
-pub extern "C" fn sframe_test_hmac_sha256(
+pub fn sframe_test_hmac_sha256(
     key: &[u8],
     message: &[u8],
     first: usize,
@@ -95,8 +88,7 @@ pub extern "C" fn sframe_test_hmac_sha256(
 }
 
 // HKDF-Extract with no salt, then HKDF-Expand to out's length, which is at most 8160.
-#[unsafe(no_mangle)]
-pub extern "C" fn sframe_test_hkdf_sha256(ikm: &[u8], info: &[u8], out: &mut [u8]) -> u32
+pub fn sframe_test_hkdf_sha256(ikm: &[u8], info: &[u8], out: &mut [u8]) -> u32
     ensures { Judged 0 (HkdfTakes largest (limit sha256) ikm.now info.now out.old) (out.new ≡ expand sha256 (extract sha256 [] ikm.now) info.now (length out.old)) (out.new ≡ out.old) result }
 {
     if LARGEST < ikm.len() {
@@ -131,13 +123,7 @@ fn hmac_sha512_pieces(key: &[u8], message: &[u8], first: usize, second: usize) -
     two.feed(&message[second..]).finish()
 }
 
-#[unsafe(no_mangle)]
-pub extern "C" fn sframe_test_sha512(
-    message: &[u8],
-    first: usize,
-    second: usize,
-    digest: &mut [u8],
-) -> u32
+pub fn sframe_test_sha512(message: &[u8], first: usize, second: usize, digest: &mut [u8]) -> u32
     ensures { Judged 0 (HashTakes maximum 64 message.now first second digest.old) (digest.new ≡ hash sha512 message.now ++ drop 64 digest.old) (digest.new ≡ digest.old) result }
 {
     if MAXIMUM < message.len() {
@@ -157,8 +143,7 @@ pub extern "C" fn sframe_test_sha512(
     0
 }
 
-#[unsafe(no_mangle)]
-pub extern "C" fn sframe_test_hmac_sha512(
+pub fn sframe_test_hmac_sha512(
     key: &[u8],
     message: &[u8],
     first: usize,
@@ -188,8 +173,7 @@ pub extern "C" fn sframe_test_hmac_sha512(
 }
 
 // HKDF-Extract with no salt, then HKDF-Expand to out's length, which is at most 16320.
-#[unsafe(no_mangle)]
-pub extern "C" fn sframe_test_hkdf_sha512(ikm: &[u8], info: &[u8], out: &mut [u8]) -> u32
+pub fn sframe_test_hkdf_sha512(ikm: &[u8], info: &[u8], out: &mut [u8]) -> u32
     ensures { Judged 0 (HkdfTakes largest (limit sha512) ikm.now info.now out.old) (out.new ≡ expand sha512 (extract sha512 [] ikm.now) info.now (length out.old)) (out.new ≡ out.old) result }
 {
     if LARGEST < ikm.len() {

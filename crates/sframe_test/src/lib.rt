@@ -1,8 +1,8 @@
 // SPDX-License-Identifier: MIT
-// The layer's parts as C functions, for tests from Rust. No product links it.
+// The layer's parts, each behind a function that judges its input, for tests. sframe_test_c exports them to C. No product links it.
 #![tactic(auto)]
 
 pub mod aes_modes;
 pub mod cipher_suites;
-mod hash;
+pub mod hash;
 mod judge;

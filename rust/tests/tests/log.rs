@@ -17,7 +17,7 @@ fn program() -> PathBuf {
     ));
     assert!(
         path.exists(),
-        "target/bin/log_check is missing: rt check log_check builds it"
+        "target/bin/log_check is missing: scripts/programs builds it"
     );
     path
 }
