@@ -1,13 +1,13 @@
 -- SPDX-License-Identifier: MIT
 -- Laws of the table of the rounds: how it is filled, and what a round makes of a state by it.
 -- Assumes nothing.
-use mathlib.Core.Path.{◌≡◌, refl, ap, sym, ◌∙◌}
+use mathlib.Core.Path.{◌≡◌, ap, sym, ◌∙◌}
 use mathlib.Core.List.{List, [], ◌∷◌}
-use Prim.Native.Nat.{ℕ, zero, suc, ◌+◌, ◌*◌, ◌-◌, ◌/◌, ◌%◌, ◌^◌, ◌≤◌, ◌<◌}
+use Prim.Native.Nat.{ℕ, ◌+◌, ◌*◌, ◌/◌, ◌%◌, ◌^◌, ◌<◌}
 use native.Mathlib.Nat.{add-zero}
 use native.Mathlib.Omega.{arith}
 use lib.Bits.{bit_xor, xor_lt, xor_comm}
-use lib.ListN.{length, get_or}
+use lib.ListN.{get_or}
 use Rattle.octets.proofs.Bits.{xor_assoc}
 use Rattle.aes_tables.specs.Field.{mul, s_box}
 use Rattle.aes_round_table.specs.Inner.RoundTable.{mixed_first, twice, RoundTable}

@@ -3,15 +3,14 @@
 -- Assumes nothing.
 use mathlib.Core.Path.{◌≡◌, refl, sym, ◌∙◌, ap, ap₂}
 use mathlib.Core.List.{List}
-use Prim.Native.Nat.{ℕ, zero, suc, ◌+◌, ◌*◌, ◌-◌, ◌/◌, ◌%◌, ◌≤◌, ◌<◌}
+use Prim.Native.Nat.{ℕ, zero, suc, ◌+◌, ◌*◌, ◌/◌, ◌%◌, ◌<◌}
 use native.Mathlib.Omega.{arith}
 use lib.Bits.{bit_xor, xor_block, xor_mod, xor_shr, xor_comm}
-use lib.ListN.{length}
 use Rattle.octets.proofs.Bits.{xor_assoc}
 use Rattle.aes_tables.specs.Field.{x_times, mul}
 use Rattle.aes.proofs.Words.{mul-two, mul-three}
 use Rattle.bitslice.specs.declared.Planes.{Planes}
-use Rattle.bitslice.specs.Lanes.{lane_byte, Sum, Mixed, Turned}
+use Rattle.bitslice.specs.Lanes.{lane_byte, Sum, Mixed}
 use Rattle.bitslice.proofs.RowSums.{lane-byte-lt}
 use Rattle.aes_rows.specs.declared.State.{State}
 use Rattle.aes_rows.specs.Rows.{row_at, RowSet, Each, Adding}

@@ -1,19 +1,19 @@
 -- SPDX-License-Identifier: MIT
 -- What a round does to planes is the round of FIPS 197 on each of the sixteen blocks.
 -- Assumes nothing.
-use mathlib.Core.Path.{◌≡◌, refl, sym, ◌∙◌, ap}
-use mathlib.Core.List.{List, [], ◌∷◌}
-use Prim.Native.Nat.{ℕ, zero, suc, ◌+◌, ◌*◌, ◌-◌, ◌/◌, ◌%◌, ◌≤◌, ◌<◌}
+use mathlib.Core.Path.{◌≡◌, sym, ◌∙◌, ap}
+use mathlib.Core.List.{List}
+use Prim.Native.Nat.{ℕ, ◌+◌, ◌*◌, ◌-◌, ◌%◌, ◌<◌}
 use native.Mathlib.Omega.{arith}
 use lib.Bits.{bit_xor, xor_comm, xor_lt}
-use lib.ListN.{length, get_or}
+use lib.ListN.{get_or}
 use Rattle.octets.proofs.Bits.{xor_assoc}
 use Rattle.aes_tables.specs.Field.{s_box, mul}
-use Rattle.aes.specs.Aes.{word, byte, columns, add_round_key, mix_column, mix_columns, shift_rows, sub_bytes}
+use Rattle.aes.specs.Aes.{word, byte, add_round_key, mix_column, mix_columns, shift_rows, sub_bytes}
 use Rattle.aes.proofs.Words.{byte-0, byte-1, byte-2, byte-3, word-xor, s_box-lt, twice-lt, thrice-lt}
 use Rattle.aes.proofs.Columns.{shifted, shift-columns, mixed_column, mix-columns}
 use Rattle.bitslice.proofs.RowSums.{lane-byte-lt}
-use Rattle.aes_rows.specs.Rows.{row_at, Each, Substituting, Adding}
+use Rattle.aes_rows.specs.Rows.{Each, Substituting, Adding}
 use Rattle.aes_rows.specs.Rounds.{byte_at, shifted_at, mix_of, AllMixed, AllShifted}
 use Rattle.aes_rows.specs.Blocks.{place, column, state, KeyPlanes}
 

@@ -1,7 +1,7 @@
 -- SPDX-License-Identifier: MIT
 -- ShiftRows, MixColumns and AddRoundKey on rows of planes.
 -- Assumes nothing.
-use Rattle.std.specs.Prelude.{◌≡◌, List, ℕ, ◌+◌, ◌*◌, ◌-◌, ◌%◌, ◌≤◌, ◌<◌, length}
+use Rattle.std.specs.Prelude.{◌≡◌, List, ℕ, ◌+◌, ◌*◌, ◌-◌, ◌%◌, ◌<◌, length}
 use Rattle.std.specs.Int.Bits.{bit_xor}
 use Rattle.aes_tables.specs.Field.{mul}
 use Rattle.bitslice.specs.declared.Planes.{Planes}

@@ -2,7 +2,7 @@
 -- The rule of the S-box, carried to each entry by one test over the whole table, and the field's inverse, by one test over
 -- every byte.
 -- Assumes nothing.
-use mathlib.Core.Path.{◌≡◌, ◌∙◌}
+use mathlib.Core.Path.{◌≡◌}
 use mathlib.Core.Bool.{Bool}
 use mathlib.Core.List.{List}
 use Prim.Native.Nat.{ℕ, ◌<◌, min}

@@ -1,21 +1,18 @@
 -- SPDX-License-Identifier: MIT
 -- Planes into bytes, and rows of bytes into columns, from the exchanges of the code.
 -- Assumes nothing.
-use mathlib.Core.Path.{◌≡◌, refl, sym, ◌∙◌, ap, ap₂}
-use mathlib.Core.Bool.{Bool}
+use mathlib.Core.Path.{◌≡◌, refl, sym, ◌∙◌}
 use mathlib.Core.List.{List, [], ◌∷◌}
-use Prim.Native.Nat.{ℕ, zero, suc, ◌+◌, ◌*◌, ◌-◌, ◌/◌, ◌%◌, ◌^◌, ◌≤◌, ◌<◌}
+use Prim.Native.Nat.{ℕ, zero, suc, ◌+◌, ◌*◌, ◌-◌, ◌/◌, ◌%◌, ◌^◌, ◌<◌}
 use native.Mathlib.Nat.{mod-eq_of_lt}
 use native.Mathlib.Omega.{arith}
-use lib.Dec.{T, eqb}
-use lib.ListN.{get_or, replicate}
-use Rattle.octets.specs.Octets.{number, bytes, pick}
+use lib.ListN.{get_or}
+use Rattle.octets.specs.Octets.{number, bytes}
 use Rattle.octets.proofs.Laws.{number-bytes}
-use Rattle.octets.proofs.Entries.{all}
 use Rattle.bitslice.specs.declared.Planes.{Planes}
-use Rattle.bitslice.specs.Lanes.{lane, byte_of, lane_byte}
+use Rattle.bitslice.specs.Lanes.{lane, lane_byte}
 use Rattle.bit_transpose.specs.Transposition.{octet, column, words_of, Swapped, Transposed}
-use Rattle.bit_transpose.proofs.Sources.{source, Reads, given, first, second, Partner, first_reads, second_reads, follows, reads_as, octet-bits}
+use Rattle.bit_transpose.proofs.Sources.{source, Reads, given, Partner, first_reads, second_reads, follows, reads_as, octet-bits}
 
 partner-1 : Partner 1
 partner-1 j h d = omega arith

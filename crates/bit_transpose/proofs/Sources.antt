@@ -1,11 +1,11 @@
 -- SPDX-License-Identifier: MIT
 -- Where each bit of a word comes from, through any number of exchanges. Bit j of word i of a list has the number 64 i + j.
 -- Assumes nothing.
-use mathlib.Core.Path.{◌≡◌, refl, sym, ◌∙◌, ap, ap₂}
+use mathlib.Core.Path.{◌≡◌, refl, sym, ◌∙◌, ap}
 use mathlib.Core.Bool.{Bool}
-use mathlib.Core.List.{List, [], ◌∷◌}
+use mathlib.Core.List.{List}
 use mathlib.Core.Logic.{◌⊎◌, inl, inr}
-use Prim.Native.Nat.{ℕ, zero, suc, ◌+◌, ◌*◌, ◌-◌, ◌/◌, ◌%◌, ◌^◌, ◌≤◌, ◌<◌}
+use Prim.Native.Nat.{ℕ, zero, suc, ◌+◌, ◌*◌, ◌-◌, ◌/◌, ◌%◌, ◌<◌}
 use native.Mathlib.Nat.{mod-lt}
 use native.Mathlib.Omega.{arith}
 use lib.Dec.{T, eqb, eqb→eq}
@@ -15,7 +15,7 @@ use Rattle.octets.proofs.Entries.{all, entry-rule}
 use Rattle.bitslice.specs.Lanes.{lane, byte_of}
 use Rattle.bitslice.proofs.Shifts.{lane-shr}
 use Rattle.bitslice.proofs.Spreads.{shifts}
-use Rattle.bit_transpose.specs.Transposition.{octet, column, Swapped}
+use Rattle.bit_transpose.specs.Transposition.{octet, Swapped}
 
 abbrev pub source : List ℕ → ℕ → ℕ
 source l s = lane (s % 64) (get_or l (s / 64) 0)

@@ -1,12 +1,12 @@
 -- SPDX-License-Identifier: MIT
 -- The bit operations act on each bit of a word apart. Assumes nothing.
-use mathlib.Core.Path.{◌≡◌, refl, sym, ◌∙◌, ap, ap₂}
-use Prim.Native.Nat.{ℕ, zero, suc, ◌+◌, ◌*◌, ◌-◌, ◌/◌, ◌%◌, ◌^◌, ◌≤◌, ◌<◌, min}
+use mathlib.Core.Path.{◌≡◌, refl, ◌∙◌, ap}
+use Prim.Native.Nat.{ℕ, zero, suc, ◌+◌, ◌-◌, ◌/◌, ◌%◌, ◌^◌, ◌<◌, min}
 use native.Mathlib.Nat.{mod-lt, mod-eq_of_lt, pow-suc}
 use native.Mathlib.Omega.{arith}
 use lib.Arith.{digits_mod}
 use lib.Pow.{pow_pos, ones_split, ones_lt, high}
-use lib.Bits.{bit_xor, bit_and, bit_or, differ, xor_shr, and_shr, xor_step, and_step, xor_lt, and_lt, and_mask, xor_add_and}
+use lib.Bits.{bit_xor, bit_and, differ, xor_shr, and_shr, xor_step, and_step, and_mask, xor_add_and}
 use Rattle.bitslice.specs.Lanes.{lane}
 
 pub bit : (n : ℕ) → n % 2 < 2

@@ -1,14 +1,14 @@
 -- SPDX-License-Identifier: MIT
 -- Bits of a word that is shifted, cut, joined or turned. Assumes nothing.
-use mathlib.Core.Path.{◌≡◌, refl, sym, ◌∙◌, ap, ap₂}
-use Prim.Native.Nat.{ℕ, zero, suc, ◌+◌, ◌*◌, ◌-◌, ◌/◌, ◌%◌, ◌^◌, ◌≤◌, ◌<◌, max}
-use native.Mathlib.Nat.{mod-lt, mod-eq_of_lt, pow-suc, add_comm, zero-max, max-zero, mul_assoc, lt_of_lt_of_le, div-eq_of_lt}
+use mathlib.Core.Path.{◌≡◌, sym, ◌∙◌, ap, ap₂}
+use Prim.Native.Nat.{ℕ, suc, ◌+◌, ◌*◌, ◌-◌, ◌/◌, ◌%◌, ◌^◌, ◌≤◌, ◌<◌, max}
+use native.Mathlib.Nat.{pow-suc, zero-max, max-zero, mul_assoc, lt_of_lt_of_le, div-eq_of_lt}
 use native.Mathlib.Omega.{arith}
 use lib.Arith.{digits_mod, mod-mul}
-use lib.Pow.{pow_pos, pow-add, shr-shr, shl-shr, field, mod-pow-add, pow_mono}
-use lib.Bits.{bit_or, or_shr, or_step, or_lt}
+use lib.Pow.{pow_pos, pow-add, shr-shr, shl-shr, field, pow_mono}
+use lib.Bits.{bit_or, or_shr, or_step}
 use Rattle.bitslice.specs.Lanes.{lane}
-use Rattle.bitslice.proofs.Bits.{bit, lane-bit}
+use Rattle.bitslice.proofs.Bits.{bit}
 
 or-odd : (a b : ℕ) → bit_or a b % 2 ≡ max (a % 2) (b % 2)
 or-odd a b = ap (λ (n : ℕ). n % 2) (or_step a b) ∙ digits_mod (bit_or (a / 2) (b / 2)) (omega (arith, bit a, bit b))

@@ -9,7 +9,6 @@ use native.Mathlib.Omega.{arith}
 use lib.Bits.{bit_and, and_block, and_mask}
 use lib.Pow.{shr-shr}
 use lib.Arith.{mod-mul}
-use Rattle.bitslice.specs.declared.Planes.{Planes}
 use Rattle.bitslice.specs.Lanes.{lane, byte_of, lane_byte, Lowest, Spread}
 use Rattle.bitslice.proofs.Bits.{lane_ones}
 use Rattle.bitslice.proofs.Shifts.{lane-shr, lane_low, lane_past}

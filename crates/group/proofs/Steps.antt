@@ -1,6 +1,6 @@
 -- SPDX-License-Identifier: MIT
 -- What packing and unpacking answer, cause by cause, over plain variables. Assumes nothing.
-use mathlib.Core.Path.{◌≡◌, refl, sym, ◌∙◌, ap, ap₂}
+use mathlib.Core.Path.{◌≡◌, sym, ◌∙◌, ap}
 use mathlib.Core.Bool.{Bool, true, false, not}
 use Prim.Native.Nat.{ℕ, ◌+◌, ◌*◌, ◌/◌, ◌%◌, ◌-◌, ◌^◌, ◌<◌, ◌≤◌}
 use native.Mathlib.Nat.{mod-eq_of_lt, div-eq_of_lt, lt-mul-div-succ, one-mul, mul-le-mul_right}

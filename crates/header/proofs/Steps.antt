@@ -11,7 +11,7 @@ use borrow.Author.Tests.{le-leb, lt-leb, leb-true, leb-false, eq-eqb, ne_eqb}
 use borrow.Rule.Slice.PartMut.{put_mid}
 use Rattle.octets.specs.Octets.{number, bytes, pasted}
 use Rattle.octets.proofs.Laws.{part-rest, part-from, lent-from, bytes-length, set-pasted, pasted-append, pasted-from}
-use Rattle.header.specs.Header.{size, flag, code, width, config, max_header, header, write_header, read_bytes, read_field, with_counter, read_counter, read_header}
+use Rattle.header.specs.Header.{flag, code, width, config, max_header, header, write_header, read_bytes, read_field, with_counter, read_counter, read_header}
 use Rattle.header.specs.declared.Field.{Field}
 use Rattle.header.specs.declared.Field.TheVariants.{Value, Refused}
 use Rattle.header.specs.declared.Reading.TheVariants.{Header, Invalid}

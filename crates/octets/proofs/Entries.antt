@@ -1,7 +1,6 @@
 -- SPDX-License-Identifier: MIT
 -- A rule that holds at each entry of a table, from one test that is computed over the whole table.
 -- Assumes nothing.
-use mathlib.Core.Path.{◌≡◌, refl, ap, sym, ◌∙◌}
 use mathlib.Core.Bool.{Bool, true, false}
 use mathlib.Core.List.{List, [], ◌∷◌}
 use Prim.Native.Nat.{ℕ, zero, suc, ◌+◌, ◌<◌}

@@ -1,11 +1,11 @@
 -- SPDX-License-Identifier: MIT
 -- Laws of the bitwise functions: the shorter forms that the code computes. Assumes nothing.
 use mathlib.Core.Path.{◌≡◌, refl, ap, sym, ◌∙◌}
-use Prim.Native.Nat.{ℕ, zero, suc, ◌+◌, ◌*◌, ◌-◌, ◌/◌, ◌%◌, ◌^◌, ◌<◌, ◌≤◌, min}
+use Prim.Native.Nat.{ℕ, zero, suc, ◌-◌, ◌/◌, ◌%◌, ◌^◌, ◌<◌, min}
 use native.Mathlib.Nat.{mod-lt, mod-eq_of_lt}
 use native.Mathlib.Omega.{arith}
 use lib.Arith.{bin_ind, digits_div, digits_mod}
-use lib.Bits.{bit_and, bit_xor, differ, and_step, xor_step, and_zero_l, xor_zero_l, xor_self, and_comm, xor_comm, and_mask, xor_add_and}
+use lib.Bits.{bit_and, bit_xor, differ, and_step, xor_step, and_zero_l, and_comm, xor_comm, and_mask, xor_add_and}
 use Rattle.octets.proofs.Bits.{xor_assoc}
 use Rattle.sha2_common.specs.Sha2.{Params, complement, Ch, Maj}
 

@@ -1,5 +1,4 @@
 -- SPDX-License-Identifier: MIT
-use borrow.Author.Rules.{rules}
 use Rattle.add_key.specs.Add.{barred}
 use Rattle.add_key.proofs.is_barred.Goals as goal
 

@@ -4,8 +4,7 @@ use Rattle.tracks.proofs.Places.{tested-sound, tested-whole, free-within}
 use Rattle.track_record.specs.Record.{track_id}
 use Rattle.octets.specs.Octets.{Octets}
 use native.Mathlib.Omega.{arith}
-use mathlib.Core.Path.{◌≡◌, refl, sym, ◌∙◌, ap}
-use borrow.Author.Rules.{rules}
+use mathlib.Core.Path.{ap}
 use mathlib.Core.Bool.{not}
 use Rattle.add_track.proofs.add.Goals as goal
 
@@ -53,8 +52,7 @@ returns-in_default-find_free c =
 
 pub fill_at-requires : goal.fill_at-requires
 fill_at-requires c =
-    let octets : Octets c.args.store.now = λ j. omega (arith, c.slice_known-1.given j) in
-    (
+    let octets : Octets c.args.store.now = λ j. omega (arith, c.slice_known-1.given j) in (
       free-within c.args.store.now _ _ (tested-sound c.args.store.now (octets) _ c.is_sound.ensures (ap not c.if-not-is_sound.false)) c.find_free.ensures c.in-At.is,
       free-empty _ _ _ c.find_free.ensures c.in-At.is,
       c.if-name-gt-MAX_NAME.false,

@@ -1,7 +1,6 @@
 -- SPDX-License-Identifier: MIT
 use Rattle.add_track.specs.Add.{barred}
 use mathlib.Core.Path.{sym, ap}
-use borrow.Author.Rules.{rules}
 use Rattle.add_track.proofs.is_barred.Goals as goal
 
 pub returns-in-Sending : goal.returns-in-Sending

@@ -3,7 +3,6 @@ use mathlib.Core.Path.{◌∙◌, ap}
 use Rattle.octets.specs.Octets.{number}
 use Rattle.octets.proofs.Laws.{part-rest}
 use Rattle.aes_batch.proofs.Counting.{counters-made}
-use borrow.Author.Rules.{rules}
 use Rattle.aes_batch.proofs.counters.Goals as goal
 
 pub returns : goal.returns

@@ -1,14 +1,12 @@
 -- SPDX-License-Identifier: MIT
 use mathlib.Core.Path.{◌≡◌, refl}
 use mathlib.Core.List.{List}
-use Prim.Native.Nat.{ℕ, ◌+◌, ◌*◌, ◌-◌, ◌≤◌}
+use Prim.Native.Nat.{ℕ, ◌+◌, ◌*◌, ◌-◌}
 use native.Mathlib.Omega.{arith}
-use lib.ListN.{length, get_or}
-use Rattle.aes.specs.Aes.{Nr}
+use lib.ListN.{get_or}
 use Rattle.aes_rows.specs.Rows.{state_planes}
-use Rattle.aes_keys.specs.Inner.Keys.{rounds_at, size, key_of, planes_at}
-use Rattle.aes_batch.proofs.Ciphers.{Rounded, rounds-start, rounds-next, rounds-last}
-use borrow.Author.Rules.{rules}
+use Rattle.aes_keys.specs.Inner.Keys.{rounds_at, key_of}
+use Rattle.aes_batch.proofs.Ciphers.{rounds-start, rounds-next, rounds-last}
 use Rattle.aes_batch.proofs.encrypt.Goals as goal
 
 pub loop-r-init : goal.loop-r-init

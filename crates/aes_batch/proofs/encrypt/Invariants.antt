@@ -1,14 +1,11 @@
 -- SPDX-License-Identifier: MIT
-use mathlib.Core.Path.{◌≡◌, refl}
-use mathlib.Core.List.{List}
-use Prim.Native.Nat.{ℕ, ◌+◌, ◌*◌, ◌-◌, ◌≤◌}
-use native.Mathlib.Omega.{arith}
-use lib.ListN.{length, get_or}
+use mathlib.Core.Path.{◌≡◌}
+use Prim.Native.Nat.{◌-◌, ◌≤◌}
+use lib.ListN.{length}
 use Rattle.aes.specs.Aes.{Nr}
 use Rattle.aes_rows.specs.Rows.{state_planes}
-use Rattle.aes_keys.specs.Inner.Keys.{rounds_at, size, key_of, planes_at}
-use Rattle.aes_batch.proofs.Ciphers.{Rounded, rounds-start, rounds-next, rounds-last}
-use borrow.Author.Rules.{rules}
+use Rattle.aes_keys.specs.Inner.Keys.{size, key_of}
+use Rattle.aes_batch.proofs.Ciphers.{Rounded}
 use Rattle.aes_batch.proofs.encrypt.Given as goal
 
 abbrev pub invariant-loop-r : goal.invariant-loop-r

@@ -1,6 +1,5 @@
 -- SPDX-License-Identifier: MIT
 use Rattle.aes_batch.proofs.Streams.{fronted}
-use borrow.Author.Rules.{rules}
 use Rattle.aes_batch.proofs.front.Goals as goal
 
 pub returns : goal.returns

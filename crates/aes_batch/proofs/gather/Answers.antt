@@ -1,10 +1,7 @@
 -- SPDX-License-Identifier: MIT
 use mathlib.Core.Path.{◌≡◌}
-use Prim.Native.Nat.{◌≤◌, ◌-◌}
 use native.Mathlib.Omega.{arith}
-use lib.ListN.{length, length-set}
-use Rattle.aes_rows.specs.Rows.{state_planes}
-use Rattle.aes_batch.specs.Inner.Batch.{Gathered}
+use lib.ListN.{length-set}
 use Rattle.aes_batch.proofs.Unslicing.{gather-start, gather-next}
 use borrow.Author.Rules.{rules}
 use Rattle.aes_batch.proofs.gather.Goals as goal

@@ -1,12 +1,9 @@
 -- SPDX-License-Identifier: MIT
 use mathlib.Core.Path.{◌≡◌}
 use Prim.Native.Nat.{◌≤◌, ◌-◌}
-use native.Mathlib.Omega.{arith}
-use lib.ListN.{length, length-set}
+use lib.ListN.{length}
 use Rattle.aes_rows.specs.Rows.{state_planes}
 use Rattle.aes_batch.specs.Inner.Batch.{Gathered}
-use Rattle.aes_batch.proofs.Unslicing.{gather-start, gather-next}
-use borrow.Author.Rules.{rules}
 use Rattle.aes_batch.proofs.gather.Given as goal
 
 abbrev pub invariant-loop-i : goal.invariant-loop-i

@@ -1,6 +1,5 @@
 -- SPDX-License-Identifier: MIT
 use Rattle.aes_batch.proofs.Counting.{numbered}
-use borrow.Author.Rules.{rules}
 use Rattle.aes_batch.proofs.number.Goals as goal
 
 pub returns : goal.returns

@@ -1,6 +1,5 @@
 -- SPDX-License-Identifier: MIT
 use Rattle.aes_batch.proofs.Streams.{streamed}
-use borrow.Author.Rules.{rules}
 use Rattle.aes_batch.proofs.stream.Goals as goal
 
 pub returns : goal.returns

@@ -1,11 +1,7 @@
 -- SPDX-License-Identifier: MIT
-use mathlib.Core.Path.{◌≡◌}
 use Prim.Native.Nat.{◌≤◌, ◌-◌}
-use native.Mathlib.Omega.{arith}
-use Rattle.aes_rows.specs.Rows.{row_at, Each}
-use Rattle.aes_rows.proofs.Sets.{each_start, each_step}
+use Rattle.aes_rows.specs.Rows.{Each}
 use Rattle.aes_batch.specs.Inner.Batch.{Transposing}
-use borrow.Author.Rules.{rules}
 use Rattle.aes_batch.proofs.transpose.Given as goal
 
 abbrev pub invariant-loop-r : goal.invariant-loop-r

@@ -1,7 +1,6 @@
 -- SPDX-License-Identifier: MIT
 use mathlib.Core.Path.{refl}
 use Rattle.aes_batch.proofs.Unslicing.{unsliced}
-use borrow.Author.Rules.{rules}
 use Rattle.aes_batch.proofs.unslice.Goals as goal
 
 pub gather-requires : goal.gather-requires

@@ -1,6 +1,5 @@
 -- SPDX-License-Identifier: MIT
 use Rattle.aes_batch.proofs.Counting.{cleared}
-use borrow.Author.Rules.{rules}
 use Rattle.aes_batch.proofs.without_first.Goals as goal
 
 pub returns : goal.returns

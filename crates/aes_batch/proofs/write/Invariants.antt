@@ -1,13 +1,10 @@
 -- SPDX-License-Identifier: MIT
-use mathlib.Core.Path.{◌≡◌, ◌∙◌, ap}
-use Prim.Native.Nat.{◌+◌, ◌≤◌, ◌-◌}
-use native.Mathlib.Omega.{arith}
+use mathlib.Core.Path.{◌≡◌}
+use Prim.Native.Nat.{◌≤◌, ◌-◌}
 use lib.ListN.{length}
 use Rattle.octets.specs.Octets.{pasted}
 use Rattle.aes_rows.specs.Rows.{state_planes}
 use Rattle.aes_batch.specs.Inner.Batch.{batch_size, word_bytes}
-use Rattle.aes_batch.proofs.Unslicing.{write-start, write-next, written-length, written}
-use borrow.Author.Rules.{rules}
 use Rattle.aes_batch.proofs.write.Given as goal
 
 abbrev pub invariant-loop-i : goal.invariant-loop-i

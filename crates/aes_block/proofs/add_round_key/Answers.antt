@@ -1,7 +1,6 @@
 -- SPDX-License-Identifier: MIT
 -- `aes::add_round_key` meets its contract.
 -- Assumes nothing.
-use borrow.Author.Rules.{rules}
 use Prim.Native.Nat.{◌*◌}
 use native.Mathlib.Nat.{add-zero}
 use Rattle.aes.specs.Aes.{add_round_key}

@@ -1,14 +1,10 @@
 -- SPDX-License-Identifier: MIT
 -- `aes::encrypt` meets its contract: the loop's invariant: t is the state after r rounds.
 -- Assumes nothing.
-use mathlib.Core.Path.{◌≡◌, refl}
+use mathlib.Core.Path.{◌≡◌}
 use Prim.Native.Nat.{◌+◌, ◌≤◌, ◌-◌}
-use native.Mathlib.Omega.{arith}
 use Rattle.aes.specs.Aes.{rounds}
 use Rattle.aes_block.specs.Inner.Context.{list_of}
-use Rattle.aes.proofs.Expansion.{rounds-step}
-use Rattle.aes_block.proofs.Contexts.{enciphered}
-use borrow.Author.Rules.{rules}
 use Rattle.aes_block.proofs.encrypt.Given as goal
 
 abbrev pub invariant-loop-r : goal.invariant-loop-r

@@ -2,12 +2,9 @@
 -- `aes::expand` meets its contract.
 -- Assumes nothing.
 use mathlib.Core.Path.{◌≡◌, refl, ap, ◌∙◌}
-use Prim.Native.Nat.{◌+◌, ◌-◌, ◌≤◌}
+use Prim.Native.Nat.{◌+◌}
 use native.Mathlib.Omega.{arith}
-use borrow.Author.Rules.{rules}
-use lib.ListN.{length, take}
-use Rattle.aes.specs.Aes.{Nr}
-use Rattle.aes_block.specs.Inner.Context.{Table}
+use lib.ListN.{take}
 use Rattle.aes_block.proofs.Contexts.{copy_step, copied, context}
 use Rattle.aes_block.proofs.expand.Goals as goal
 

@@ -1,14 +1,10 @@
 -- SPDX-License-Identifier: MIT
 -- `aes::expand` meets its contract.
 -- Assumes nothing.
-use mathlib.Core.Path.{◌≡◌, refl, ap, ◌∙◌}
-use Prim.Native.Nat.{◌+◌, ◌-◌, ◌≤◌}
-use native.Mathlib.Omega.{arith}
-use borrow.Author.Rules.{rules}
-use lib.ListN.{length, take}
-use Rattle.aes.specs.Aes.{Nr}
+use mathlib.Core.Path.{◌≡◌}
+use Prim.Native.Nat.{◌-◌, ◌≤◌}
+use lib.ListN.{take}
 use Rattle.aes_block.specs.Inner.Context.{Table}
-use Rattle.aes_block.proofs.Contexts.{copy_step, copied, context}
 use Rattle.aes_block.proofs.expand.Given as goal
 
 abbrev pub invariant-loop-i : goal.invariant-loop-i

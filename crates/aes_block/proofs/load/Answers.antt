@@ -5,7 +5,6 @@ use mathlib.Core.List.{List}
 use Prim.Native.Nat.{ℕ}
 use Rattle.octets.proofs.Laws.{part-rest}
 use Rattle.aes.specs.Aes.{state_of}
-use borrow.Author.Rules.{rules}
 use Rattle.aes_block.proofs.load.Goals as goal
 
 pub returns : goal.returns

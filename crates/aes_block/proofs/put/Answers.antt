@@ -7,7 +7,6 @@ use mathlib.Core.Path.{◌∙◌}
 use native.Mathlib.Omega.{arith}
 use Rattle.octets.specs.Octets.{bytes}
 use Rattle.octets.proofs.Laws.{bytes-length, lent-pasted}
-use borrow.Author.Rules.{rules}
 use Rattle.aes_block.proofs.put.Goals as goal
 
 pub returns : goal.returns

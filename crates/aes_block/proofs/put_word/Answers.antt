@@ -1,7 +1,6 @@
 -- SPDX-License-Identifier: MIT
 -- `aes::put_word` meets its contract.
 -- Assumes nothing.
-use borrow.Author.Rules.{rules}
 use mathlib.Core.Path.{refl}
 use Rattle.aes_block.proofs.Contexts.{table_kept}
 use Rattle.aes_block.proofs.put_word.Goals as goal

@@ -1,7 +1,6 @@
 -- SPDX-License-Identifier: MIT
 -- `aes::round` meets its contract.
 -- Assumes nothing.
-use borrow.Author.Rules.{rules}
 use Prim.Native.Nat.{ℕ, ◌+◌, ◌*◌}
 use lib.ListN.{get_or}
 use Rattle.aes_block.specs.declared.State.{State}

@@ -1,7 +1,6 @@
 -- SPDX-License-Identifier: MIT
 -- `aes::share` meets its contract.
 -- Assumes nothing.
-use borrow.Author.Rules.{rules}
 use Rattle.aes_block.proofs.share.Goals as goal
 
 pub returns : goal.returns

@@ -1,7 +1,6 @@
 -- SPDX-License-Identifier: MIT
 -- `aes::shift` meets its contract.
 -- Assumes nothing.
-use borrow.Author.Rules.{rules}
 use Rattle.aes_tables.specs.Field.{s_box}
 use Rattle.aes.specs.Aes.{byte}
 use Rattle.aes_block.specs.declared.State.{State}

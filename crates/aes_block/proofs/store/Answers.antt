@@ -2,7 +2,6 @@
 -- `aes::store` meets its contract: the four words, one after the other, are the block.
 -- Assumes nothing.
 use Rattle.aes_block.proofs.Blocks.{stored}
-use borrow.Author.Rules.{rules}
 use Rattle.aes_block.proofs.store.Goals as goal
 
 pub returns : goal.returns

@@ -1,7 +1,6 @@
 -- SPDX-License-Identifier: MIT
 -- `aes::word_at` meets its contract.
 -- Assumes nothing.
-use borrow.Author.Rules.{rules}
 use native.Mathlib.Nat.{mod-eq_of_lt}
 use Rattle.aes_block.proofs.word_at.Goals as goal
 

@@ -5,7 +5,7 @@
 use Rattle.std.specs.Prelude.{◌≡◌, List, [], ◌∷◌, ◌++◌, ℕ, zero, suc, ◌+◌, ◌*◌, ◌-◌, ◌^◌, ◌<◌, length, get_or, take}
 use Rattle.octets.specs.Octets.{bytes}
 use Rattle.aes_block.specs.declared.State.{State}
-use Rattle.aes_tables.specs.Field.{mul, s_box}
+use Rattle.aes_tables.specs.Field.{mul}
 use Rattle.aes_round_table.specs.Inner.RoundTable.{entry_of}
 use Rattle.aes.specs.Aes.{word, Nr, key_expansion, KeySize}
 use Rattle.aes.specs.Inner.Schedule.{max_words}

@@ -1,12 +1,10 @@
 -- SPDX-License-Identifier: MIT
 use mathlib.Core.Path.{◌≡◌, refl, sym, ◌∙◌}
-use Prim.Native.Nat.{◌+◌, ◌*◌, ◌-◌, ◌≤◌}
+use Prim.Native.Nat.{◌+◌, ◌*◌, ◌-◌}
 use native.Mathlib.Omega.{arith}
-use lib.ListN.{length, length-set}
+use lib.ListN.{length-set}
 use Rattle.aes.specs.Aes.{Nr}
-use Rattle.aes_keys.specs.Inner.Keys.{RoundKeys}
-use Rattle.aes_keys.proofs.Keys16.{keys-start, keys_step, context}
-use borrow.Author.Rules.{rules}
+use Rattle.aes_keys.proofs.Keys16.{keys_step, context}
 use Rattle.aes_keys.proofs.expand.Goals as goal
 
 pub loop-r-preserved : goal.loop-r-preserved

@@ -1,12 +1,8 @@
 -- SPDX-License-Identifier: MIT
-use mathlib.Core.Path.{◌≡◌, refl, sym, ◌∙◌}
-use Prim.Native.Nat.{◌+◌, ◌*◌, ◌-◌, ◌≤◌}
-use native.Mathlib.Omega.{arith}
-use lib.ListN.{length, length-set}
-use Rattle.aes.specs.Aes.{Nr}
+use mathlib.Core.Path.{◌≡◌}
+use Prim.Native.Nat.{◌+◌, ◌-◌, ◌≤◌}
+use lib.ListN.{length}
 use Rattle.aes_keys.specs.Inner.Keys.{RoundKeys}
-use Rattle.aes_keys.proofs.Keys16.{keys-start, keys_step, context}
-use borrow.Author.Rules.{rules}
 use Rattle.aes_keys.proofs.expand.Given as goal
 
 abbrev pub invariant-loop-r : goal.invariant-loop-r

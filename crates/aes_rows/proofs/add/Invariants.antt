@@ -1,11 +1,6 @@
 -- SPDX-License-Identifier: MIT
-use mathlib.Core.Path.{◌≡◌}
 use Prim.Native.Nat.{◌≤◌, ◌-◌}
-use native.Mathlib.Omega.{arith}
-use Rattle.aes_rows.specs.Rows.{row_at, Each, Adding}
-use Rattle.aes_rows.proofs.Sets.{each_start}
-use Rattle.aes_rows.proofs.Mixing.{added-step}
-use borrow.Author.Rules.{rules}
+use Rattle.aes_rows.specs.Rows.{Each, Adding}
 use Rattle.aes_rows.proofs.add.Given as goal
 
 abbrev pub invariant-loop-r : goal.invariant-loop-r

@@ -1,6 +1,5 @@
 -- SPDX-License-Identifier: MIT
 use Rattle.aes_rows.proofs.Mixing.{row-added}
-use borrow.Author.Rules.{rules}
 use Rattle.aes_rows.proofs.add_into.Goals as goal
 
 pub returns : goal.returns

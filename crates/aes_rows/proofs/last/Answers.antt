@@ -1,6 +1,5 @@
 -- SPDX-License-Identifier: MIT
 use Rattle.aes_rows.proofs.Mixing.{all-shifted}
-use borrow.Author.Rules.{rules}
 use Rattle.aes_rows.proofs.last.Goals as goal
 
 pub returns : goal.returns

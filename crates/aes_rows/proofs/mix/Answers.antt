@@ -1,7 +1,6 @@
 -- SPDX-License-Identifier: MIT
 use native.Mathlib.Omega.{arith}
 use Rattle.aes_rows.proofs.Mixing.{all-mixed}
-use borrow.Author.Rules.{rules}
 use Rattle.aes_rows.proofs.mix.Goals as goal
 
 pub mix_into-requires-2 : goal.mix_into-requires-2

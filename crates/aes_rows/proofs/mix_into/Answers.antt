@@ -1,6 +1,5 @@
 -- SPDX-License-Identifier: MIT
 use Rattle.aes_rows.proofs.Mixing.{row-mixed}
-use borrow.Author.Rules.{rules}
 use Rattle.aes_rows.proofs.mix_into.Goals as goal
 
 pub returns : goal.returns

@@ -1,5 +1,4 @@
 -- SPDX-License-Identifier: MIT
-use borrow.Author.Rules.{rules}
 use Rattle.aes_rows.proofs.shifted.Goals as goal
 
 pub returns : goal.returns

@@ -1,11 +1,6 @@
 -- SPDX-License-Identifier: MIT
-use mathlib.Core.Path.{◌≡◌}
 use Prim.Native.Nat.{◌≤◌, ◌-◌}
-use native.Mathlib.Omega.{arith}
-use Rattle.bitslice.proofs.SBox.{by_parts}
-use Rattle.aes_rows.specs.Rows.{row_at, Each, Substituting}
-use Rattle.aes_rows.proofs.Sets.{each_start, each_step}
-use borrow.Author.Rules.{rules}
+use Rattle.aes_rows.specs.Rows.{Each, Substituting}
 use Rattle.aes_rows.proofs.sub_rows.Given as goal
 
 abbrev pub invariant-loop-r : goal.invariant-loop-r

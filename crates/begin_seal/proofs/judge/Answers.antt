@@ -1,6 +1,4 @@
 -- SPDX-License-Identifier: MIT
-use native.Mathlib.Omega.{arith}
-use borrow.Author.Rules.{rules}
 use Rattle.answers.proofs.Basics.{told-false, told-true}
 use Rattle.key_record.specs.Layout.{decode}
 use Rattle.begin_seal.proofs.BeginSteps.{judged-role, judged-counter, judged-long, judged-room, judged-state, judged-done}

@@ -1,6 +1,5 @@
 -- SPDX-License-Identifier: MIT
 use native.Mathlib.Omega.{arith}
-use borrow.Author.Rules.{rules}
 use Rattle.header.specs.Header.{header}
 use Rattle.key_record.specs.Layout.{decode}
 use Rattle.key_record.specs.Record.{counter_of}

@@ -1,5 +1,4 @@
 -- SPDX-License-Identifier: MIT
-use borrow.Author.Rules.{rules}
 use Rattle.key_record.specs.Layout.{decode}
 use Rattle.begin_state.proofs.States.{keyed-held, first-written}
 use Rattle.begin_state.proofs.write_first.Goals as goal

@@ -1,8 +1,7 @@
 -- SPDX-License-Identifier: MIT
 -- `bitslice::double` meets its contract.
 -- Assumes nothing.
-use Rattle.bitslice.specs.Lanes.{lane_byte, Doubled}
-use Rattle.bitslice.specs.declared.Planes.{Planes}
+use Rattle.bitslice.specs.Lanes.{lane_byte}
 use Rattle.bitslice.proofs.RowSums.{lanes_double}
 use Rattle.bitslice.proofs.double.Goals as goal
 

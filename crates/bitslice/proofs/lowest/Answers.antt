@@ -2,7 +2,6 @@
 -- `bitslice::lowest` meets its contract.
 -- Assumes nothing.
 use mathlib.Core.Path.{refl}
-use borrow.Author.Rules.{rules}
 use native.Mathlib.Omega.{arith}
 use lib.Bits.{and_le_r}
 use Rattle.bitslice.proofs.Spreads.{lowest}

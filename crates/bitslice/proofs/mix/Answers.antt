@@ -1,7 +1,6 @@
 -- SPDX-License-Identifier: MIT
 -- `bitslice::mix` meets its contract.
 -- Assumes nothing.
-use borrow.Author.Rules.{rules}
 use Rattle.bitslice.proofs.RowSums.{mixed}
 use Rattle.bitslice.proofs.mix.Goals as goal
 

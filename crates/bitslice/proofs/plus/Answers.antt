@@ -1,8 +1,7 @@
 -- SPDX-License-Identifier: MIT
 -- `bitslice::plus` meets its contract.
 -- Assumes nothing.
-use Rattle.bitslice.specs.Lanes.{lane_byte, Sum}
-use Rattle.bitslice.specs.declared.Planes.{Planes}
+use Rattle.bitslice.specs.Lanes.{lane_byte}
 use Rattle.bitslice.proofs.RowSums.{lanes-xor}
 use Rattle.bitslice.proofs.plus.Goals as goal
 

@@ -1,7 +1,6 @@
 -- SPDX-License-Identifier: MIT
 -- `bitslice::spread` meets its contract.
 -- Assumes nothing.
-use borrow.Author.Rules.{rules}
 use Rattle.bitslice.proofs.Spreads.{spread}
 use Rattle.bitslice.proofs.spread.Goals as goal
 

@@ -4,7 +4,7 @@
 use mathlib.Core.Path.{◌∙◌, ap}
 use borrow.Author.Rules.{rules}
 use Prim.Native.Nat.{ℕ, ◌+◌, ◌%◌}
-use Rattle.bitslice.specs.Lanes.{lane, lane_byte, Turned}
+use Rattle.bitslice.specs.Lanes.{lane, lane_byte}
 use Rattle.bitslice.specs.declared.Planes.{Planes}
 use Rattle.bitslice.specs.Inner.Parts.{Words}
 use Rattle.bitslice.proofs.Turns.{lanes-moved, lane-turned}
@@ -13,7 +13,7 @@ use Rattle.bitslice.proofs.turn.Goals as goal
 pub returns : goal.returns
 unfolding lane_byte
 returns c =
-    let fit : Words c.args.a = record { w0 = search rules; w1 = search rules; w2 = search rules; w3 = search rules; w4 = search rules; w5 = search rules; w6 = search rules; w7 = search rules; } in
+    let fit : Words c.args.a = record { w0 = search rules; w1 = search rules; w2 = search rules; w3 = search rules; w4 = search rules; w5 = search rules; w6 = search rules; w7 = search rules } in
     let a : Planes = c.args.a in
     let n : ℕ = c.args.n in
     let f : Words a = fit in

@@ -1,6 +1,5 @@
 -- SPDX-License-Identifier: MIT
 use native.Mathlib.Omega.{arith}
-use borrow.Author.Rules.{rules}
 use Rattle.octets.specs.Octets.{Octets}
 use Rattle.answers.proofs.Basics.{told-true}
 use Rattle.change_epoch.proofs.Bytes.{epoch-unsound, epoch-wide, epoch-large, end-inside, epoch-done}

@@ -1,6 +1,5 @@
 -- SPDX-License-Identifier: MIT
 use mathlib.Core.Path.{refl}
-use borrow.Author.Rules.{rules}
 use Rattle.change_epoch.proofs.Bytes.{copied-down}
 use Rattle.change_epoch.proofs.copy_down.Goals as goal
 

@@ -1,12 +1,11 @@
 -- SPDX-License-Identifier: MIT
 use mathlib.Core.Path.{◌≡◌, refl}
-use Prim.Native.Nat.{◌+◌, ◌-◌, ◌≤◌}
+use Prim.Native.Nat.{◌+◌, ◌≤◌}
 use native.Mathlib.Omega.{arith}
 use lib.ListN.{length}
-use borrow.Author.Rules.{rules}
 use Rattle.octets.specs.Octets.{Octets}
 use Rattle.key_record.specs.Layout.{record_size}
-use Rattle.change_epoch.proofs.Bytes.{Gathered, gathered_none, same_length, room, gathered-past, gathered-on, gathered-all}
+use Rattle.change_epoch.proofs.Bytes.{gathered_none, same_length, room, gathered-past, gathered-on, gathered-all}
 use mathlib.Core.Bool.{not}
 use mathlib.Core.Path.{ap}
 use Rattle.change_epoch.proofs.gather.Goals as goal

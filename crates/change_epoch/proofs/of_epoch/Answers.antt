@@ -1,5 +1,4 @@
 -- SPDX-License-Identifier: MIT
-use borrow.Author.Rules.{rules}
 use Rattle.key_record.specs.Layout.{decode}
 use Rattle.key_record.proofs.KindLaws.{receives-held}
 use Rattle.answers.proofs.Basics.{told-true}

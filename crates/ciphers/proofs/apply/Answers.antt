@@ -1,6 +1,5 @@
 -- SPDX-License-Identifier: MIT
 use Rattle.ciphers.proofs.Steps.{front-size, front-lent}
-use borrow.Author.Rules.{rules}
 use Rattle.ciphers.proofs.apply.Goals as goal
 
 pub cipher-requires : goal.cipher-requires

@@ -6,7 +6,6 @@ use Rattle.gcm.specs.Counter.{ctr}
 use Rattle.gcm.proofs.Laws.{counts-fit}
 use Rattle.suites.specs.declared.sizes.Mode.{Mode}
 use Rattle.aead.specs.Aead.{first_count}
-use borrow.Author.Rules.{rules}
 use Rattle.ciphers.proofs.cipher.Goals as goal
 
 pub apply-requires : goal.apply-requires

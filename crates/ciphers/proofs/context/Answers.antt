@@ -1,6 +1,5 @@
 -- SPDX-License-Identifier: MIT
 use Rattle.ciphers.proofs.Steps.{cipher-key-inside, cipher-key-fits, cipher-context}
-use borrow.Author.Rules.{rules}
 use Rattle.ciphers.proofs.context.Goals as goal
 
 pub slice_bounds-expand-end : goal.slice_bounds-expand-end

@@ -5,7 +5,6 @@ use Prim.Native.Nat.{◌-◌}
 use native.Mathlib.Omega.{arith}
 use lib.ListN.{length}
 use borrow.Author.Tests.{not-true, not-false}
-use borrow.Author.Rules.{rules}
 use Rattle.octets.proofs.Laws.{front-most}
 use Rattle.aead.proofs.Laws.{room-left}
 use Rattle.ciphers.proofs.Steps.{room-opened, compared-tag}
@@ -49,12 +48,15 @@ pub apply-requires : goal.apply-requires
 apply-requires c =
     let a = c.args in
     let pre = c.requires in
-    let n = length a.sealed.now - c.tag_size-nt.result in record { ready = (
+    let n = length a.sealed.now - c.tag_size-nt.result in record {
+      ready = (
         context-ready c.context.ensures,
         pre.key_len.1,
         front-most a.sealed.now n _ (omega (arith, pre.header_len_bound.2)),
         front-most a.sealed.now n _ (omega (arith, pre.suite_in_bounds.1, c.tag_size-nt.ensures)),
-      ); fronted = c.front-f.ensures.0 }
+      );
+      fronted = c.front-f.ensures.0;
+    }
 
 pub returns : goal.returns
 returns c =

@@ -3,7 +3,6 @@ use Prim.Native.Nat.{◌≤◌}
 use lib.ListN.{length}
 use mathlib.Core.Path.{sym}
 use native.Mathlib.Omega.{arith}
-use borrow.Author.Rules.{rules}
 use Rattle.octets.proofs.Laws.{front-most}
 use Rattle.ciphers.proofs.Steps.{front-size, encrypted}
 use Rattle.aes_keys.proofs.Keys16.{context-key, context-ready}

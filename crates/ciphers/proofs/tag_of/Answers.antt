@@ -1,7 +1,6 @@
 -- SPDX-License-Identifier: MIT
 use mathlib.Core.Path.{sym, ◌∙◌}
 use native.Mathlib.Omega.{arith}
-use borrow.Author.Rules.{rules}
 use Rattle.aes_keys.proofs.Keys16.{context-key}
 use Rattle.suites.proofs.Laws.{ctr-sizes}
 use Rattle.ciphers.proofs.Steps.{tag-ctr, tag-gcm}

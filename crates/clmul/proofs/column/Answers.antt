@@ -3,7 +3,6 @@
 -- Assumes nothing.
 use native.Mathlib.Omega.{arith}
 use Rattle.clmul.proofs.Holes.{product-fits}
-use borrow.Author.Rules.{rules}
 use Rattle.clmul.proofs.column.Goals as goal
 
 pub overflow_mul-result : goal.overflow_mul-result

@@ -3,7 +3,6 @@
 -- Assumes nothing.
 use native.Mathlib.Omega.{arith}
 use Rattle.clmul.proofs.Classes.{products}
-use borrow.Author.Rules.{rules}
 use Rattle.clmul.proofs.multiply.Goals as goal
 
 pub returns : goal.returns

@@ -1,5 +1,4 @@
 -- SPDX-License-Identifier: MIT
-use borrow.Author.Rules.{rules}
 use Rattle.frame.proofs.Steps.{header-told, refusal-told}
 use Rattle.frame.proofs.fields_of.Goals as goal
 

@@ -1,6 +1,5 @@
 -- SPDX-License-Identifier: MIT
 use Rattle.gcm_batch.proofs.Batches.{rest-length, counts_behind, front-applied}
-use borrow.Author.Rules.{rules}
 use Rattle.gcm_batch.proofs.apply.Goals as goal
 
 pub apply-requires : goal.apply-requires

@@ -2,7 +2,6 @@
 -- `gcm_batch::digest` meets its contract: the two parts, the ciphertext and the lengths are hashed as the definition says.
 -- Assumes nothing.
 use Rattle.gcm.proofs.Laws.{hashed}
-use borrow.Author.Rules.{rules}
 use Rattle.gcm_batch.proofs.digest.Goals as goal
 
 pub returns : goal.returns

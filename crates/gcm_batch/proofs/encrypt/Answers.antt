@@ -9,7 +9,6 @@ use lib.Seq.{length-take-le}
 use Rattle.aes_keys.specs.Inner.Keys.{key_of}
 use Rattle.gcm.proofs.Laws.{ctr-length}
 use Rattle.gcm_batch.proofs.Tags.{front_length, sealed}
-use borrow.Author.Rules.{rules}
 use Rattle.gcm_batch.proofs.encrypt.Goals as goal
 
 pub slice_bounds-apply-end-2 : goal.slice_bounds-apply-end-2

@@ -1,6 +1,5 @@
 -- SPDX-License-Identifier: MIT
 use Rattle.gcm_batch.proofs.Tags.{hash-key-made, first-sized}
-use borrow.Author.Rules.{rules}
 use Rattle.gcm_batch.proofs.hash_key_of.Goals as goal
 
 pub load-requires : goal.load-requires

@@ -5,7 +5,6 @@ use Prim.Native.Nat.{ℕ}
 use Rattle.gcm.specs.Gcm.{hash}
 use Rattle.ghash.proofs.Laws.{hash-key-of}
 use Rattle.gcm_batch.proofs.Tags.{tagged}
-use borrow.Author.Rules.{rules}
 use Rattle.gcm_batch.proofs.tag.Goals as goal
 
 pub returns : goal.returns

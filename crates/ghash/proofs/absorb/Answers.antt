@@ -1,14 +1,11 @@
 -- SPDX-License-Identifier: MIT
 -- `ghash::absorb` meets its contract: the loop's invariant: z is the hash after i blocks.
 -- Assumes nothing.
-use mathlib.Core.Path.{◌≡◌, refl}
+use mathlib.Core.Path.{refl}
 use mathlib.Core.List.{◌++◌}
-use Prim.Native.Nat.{◌-◌, ◌≤◌}
 use native.Mathlib.Omega.{arith}
-use Rattle.ghash.specs.Ghash.{absorb_blocks, absorb}
-use Rattle.ghash.specs.Inner.HashKey.{value_of, hash_key_of}
+use Rattle.ghash.specs.Ghash.{absorb_blocks}
 use Rattle.ghash.proofs.Absorbing.{absorb-step, absorb-done}
-use borrow.Author.Rules.{rules}
 use Rattle.ghash.proofs.absorb.Goals as goal
 
 pub loop-i-init : goal.loop-i-init

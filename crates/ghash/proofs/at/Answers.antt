@@ -6,7 +6,6 @@ use mathlib.Core.List.{◌++◌}
 use native.Mathlib.Omega.{arith}
 use lib.ListN.{length-append, get_or-append, get_or-eq_default}
 use Rattle.ghash.proofs.Absorbing.{append-after}
-use borrow.Author.Rules.{rules}
 use Rattle.ghash.proofs.at.Goals as goal
 
 pub returns-then-i-a : goal.returns-then-i-a

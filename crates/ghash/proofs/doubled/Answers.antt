@@ -3,7 +3,6 @@
 -- Assumes nothing.
 use native.Mathlib.Omega.{arith}
 use Rattle.ghash.proofs.Steps.{top-cleared, double-fits, low_fits, doubled-pair}
-use borrow.Author.Rules.{rules}
 use Rattle.ghash.proofs.doubled.Goals as goal
 
 pub overflow_mul-result : goal.overflow_mul-result

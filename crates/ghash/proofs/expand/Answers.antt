@@ -3,7 +3,6 @@
 -- Assumes nothing.
 use native.Mathlib.Omega.{arith}
 use Rattle.ghash.proofs.Steps.{expanded}
-use borrow.Author.Rules.{rules}
 use Rattle.ghash.proofs.expand.Goals as goal
 
 pub returns : goal.returns

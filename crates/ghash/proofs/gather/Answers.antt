@@ -3,13 +3,11 @@
 -- Assumes nothing.
 use mathlib.Core.Path.{◌≡◌, refl}
 use mathlib.Core.List.{◌++◌}
-use Prim.Native.Nat.{ℕ, ◌-◌, ◌≤◌, ◌<◌}
 use native.Mathlib.Omega.{arith}
 use borrow.Author.Count.{below_none}
-use lib.ListN.{length, get_or, drop, length-set}
+use lib.ListN.{length-set}
 use Rattle.octets.proofs.Laws.{number-ext}
 use Rattle.ghash.proofs.Absorbing.{gather-step}
-use borrow.Author.Rules.{rules}
 use Rattle.ghash.proofs.gather.Goals as goal
 
 pub loop-k-init : goal.loop-k-init

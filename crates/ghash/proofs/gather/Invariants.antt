@@ -1,15 +1,10 @@
 -- SPDX-License-Identifier: MIT
 -- `ghash::gather` meets its contract: the loop's invariant: the first k bytes are those from index i on.
 -- Assumes nothing.
-use mathlib.Core.Path.{◌≡◌, refl}
+use mathlib.Core.Path.{◌≡◌}
 use mathlib.Core.List.{◌++◌}
 use Prim.Native.Nat.{ℕ, ◌-◌, ◌≤◌, ◌<◌}
-use native.Mathlib.Omega.{arith}
-use borrow.Author.Count.{below_none}
-use lib.ListN.{length, get_or, drop, length-set}
-use Rattle.octets.proofs.Laws.{number-ext}
-use Rattle.ghash.proofs.Absorbing.{gather-step}
-use borrow.Author.Rules.{rules}
+use lib.ListN.{length, get_or, drop}
 use Rattle.ghash.proofs.gather.Given as goal
 
 abbrev pub invariant-loop-k : goal.invariant-loop-k

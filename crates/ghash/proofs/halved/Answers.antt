@@ -3,7 +3,6 @@
 -- Assumes nothing.
 use native.Mathlib.Omega.{arith}
 use Rattle.ghash.proofs.Steps.{halved-pair}
-use borrow.Author.Rules.{rules}
 use Rattle.ghash.proofs.halved.Goals as goal
 
 pub returns : goal.returns

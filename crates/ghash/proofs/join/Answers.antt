@@ -3,7 +3,6 @@
 -- Assumes nothing.
 use native.Mathlib.Omega.{arith}
 use Rattle.ghash.proofs.Steps.{joined}
-use borrow.Author.Rules.{rules}
 use Rattle.ghash.proofs.join.Goals as goal
 
 pub returns : goal.returns

@@ -3,7 +3,6 @@
 -- Assumes nothing.
 use mathlib.Core.Path.{sym}
 use Rattle.octets.proofs.Laws.{part-rest, number-add}
-use borrow.Author.Rules.{rules}
 use Rattle.ghash.proofs.load.Goals as goal
 
 pub returns : goal.returns

@@ -4,7 +4,6 @@
 use mathlib.Core.Path.{◌∙◌}
 use native.Mathlib.Omega.{arith}
 use Rattle.ghash.proofs.Absorbing.{direct}
-use borrow.Author.Rules.{rules}
 use Rattle.ghash.proofs.padded.Goals as goal
 
 pub returns-then-a-i-ge-BLOCK : goal.returns-then-a-i-ge-BLOCK

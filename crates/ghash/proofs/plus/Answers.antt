@@ -3,7 +3,6 @@
 -- Assumes nothing.
 use native.Mathlib.Omega.{arith}
 use Rattle.ghash.proofs.Halving.{pair-sum}
-use borrow.Author.Rules.{rules}
 use Rattle.ghash.proofs.plus.Goals as goal
 
 pub returns : goal.returns

@@ -2,12 +2,9 @@
 -- `ghash::products` meets its contract: the loop's invariant: the first i products are there. The last one follows.
 -- Assumes nothing.
 use mathlib.Core.Path.{refl}
-use Prim.Native.Nat.{◌-◌, ◌≤◌}
 use native.Mathlib.Omega.{arith}
 use borrow.Author.Count.{below_none}
-use Rattle.ghash.specs.Inner.Products.{Products}
 use Rattle.ghash.proofs.Steps.{products-step, products-last}
-use borrow.Author.Rules.{rules}
 use Rattle.ghash.proofs.products.Goals as goal
 
 pub loop-i-init : goal.loop-i-init

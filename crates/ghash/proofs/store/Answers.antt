@@ -3,7 +3,6 @@
 -- Assumes nothing.
 use native.Mathlib.Omega.{arith}
 use Rattle.ghash.proofs.Absorbing.{stored-block}
-use borrow.Author.Rules.{rules}
 use Rattle.ghash.proofs.store.Goals as goal
 
 pub returns : goal.returns

@@ -1,5 +1,4 @@
 -- SPDX-License-Identifier: MIT
-use borrow.Author.Rules.{rules}
 use Rattle.group.proofs.Steps.{above-none}
 use Rattle.group.proofs.above.Goals as goal
 

@@ -1,5 +1,4 @@
 -- SPDX-License-Identifier: MIT
-use borrow.Author.Rules.{rules}
 use native.Mathlib.Omega.{arith}
 use Rattle.group.proofs.Steps.{below_all, power-some, below_rest}
 use Rattle.group.proofs.below.Goals as goal

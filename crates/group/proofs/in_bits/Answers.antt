@@ -1,5 +1,4 @@
 -- SPDX-License-Identifier: MIT
-use borrow.Author.Rules.{rules}
 use Rattle.group.proofs.Steps.{bits-told}
 use Rattle.group.proofs.in_bits.Goals as goal
 

@@ -3,7 +3,6 @@ use mathlib.Core.Path.{◌∙◌}
 use Prim.Native.Nat.{◌+◌, ◌≤◌}
 use native.Mathlib.Omega.{arith}
 use Rattle.group.specs.Group.{kid_bits}
-use borrow.Author.Rules.{rules}
 use Rattle.group.proofs.Steps.{pack-wide, width-most, pack-index, pack-context, context-fits, index-fits, sum_fits, kid-fits, pack-done}
 use mathlib.Core.Bool.{not}
 use mathlib.Core.Path.{ap}

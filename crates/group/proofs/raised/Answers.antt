@@ -1,5 +1,4 @@
 -- SPDX-License-Identifier: MIT
-use borrow.Author.Rules.{rules}
 use Rattle.group.proofs.Steps.{raised-none, raised_all}
 use Rattle.group.proofs.raised.Goals as goal
 

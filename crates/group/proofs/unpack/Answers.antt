@@ -1,7 +1,6 @@
 -- SPDX-License-Identifier: MIT
 use Prim.Native.Nat.{◌+◌, ◌≤◌}
 use native.Mathlib.Omega.{arith}
-use borrow.Author.Rules.{rules}
 use Rattle.group.specs.Group.{kid_bits}
 use Rattle.group.proofs.Steps.{width-most, unpack-wide, unpack-done}
 use mathlib.Core.Bool.{not}

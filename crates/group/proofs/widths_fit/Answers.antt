@@ -1,5 +1,4 @@
 -- SPDX-License-Identifier: MIT
-use borrow.Author.Rules.{rules}
 use Rattle.group.proofs.Steps.{widths-long, widths-told}
 use Rattle.group.proofs.widths_fit.Goals as goal
 

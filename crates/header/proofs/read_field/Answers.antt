@@ -1,6 +1,5 @@
 -- SPDX-License-Identifier: MIT
 use native.Mathlib.Omega.{arith}
-use borrow.Author.Rules.{rules}
 use Rattle.header.proofs.Steps.{short-form, cut, whole-field}
 use Rattle.header.proofs.read_field.Goals as goal
 

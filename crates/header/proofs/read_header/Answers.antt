@@ -2,7 +2,6 @@
 use Prim.Native.Nat.{◌+◌, ◌≤◌}
 use lib.ListN.{length}
 use native.Mathlib.Omega.{arith}
-use borrow.Author.Rules.{rules}
 use Rattle.header.proofs.Steps.{nothing, no-kid, kid-inside, no-counter, both_read, counter-inside}
 use Rattle.header.proofs.read_header.Goals as goal
 

@@ -2,7 +2,6 @@
 use mathlib.Core.Path.{◌≡◌, ◌∙◌}
 use native.Mathlib.Omega.{arith}
 use lib.ListN.{length, length-set}
-use borrow.Author.Rules.{rules}
 use Rattle.header.proofs.Steps.{config-of, header-most, no_room, wrote}
 use Rattle.header.proofs.write_header.Goals as goal
 

@@ -1,5 +1,4 @@
 -- SPDX-License-Identifier: MIT
-use borrow.Author.Rules.{rules}
 use Rattle.header.proofs.Steps.{wrote_at}
 use Rattle.header.proofs.write_header_at.Goals as goal
 

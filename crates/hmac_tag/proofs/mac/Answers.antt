@@ -1,7 +1,6 @@
 -- SPDX-License-Identifier: MIT
 use mathlib.Core.Path.{◌∙◌, ap}
 use native.Mathlib.Omega.{arith}
-use borrow.Author.Rules.{rules}
 use Rattle.sha2_common.specs.Sizes.{sha256}
 use Rattle.hmac.specs.Hmac.{hmac}
 use Rattle.hmac_tag.proofs.Steps.{parts-fed}

@@ -1,6 +1,5 @@
 -- SPDX-License-Identifier: MIT
 use mathlib.Core.Path.{sym, ◌∙◌, ap}
-use borrow.Author.Rules.{rules}
 use Rattle.window.specs.Window.{seen, too_old}
 use Rattle.window.specs.declared.Window.{Window}
 use Rattle.judge_open.proofs.Steps.{counter-seen, counter-old, counter-new}

@@ -1,6 +1,4 @@
 -- SPDX-License-Identifier: MIT
-use native.Mathlib.Omega.{arith}
-use borrow.Author.Rules.{rules}
 use Rattle.answers.proofs.Basics.{told-false, told-true}
 use Rattle.answers.proofs.Limits.{not-long}
 use mathlib.Core.Path.{sym, ◌∙◌}

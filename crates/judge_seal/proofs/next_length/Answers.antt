@@ -1,6 +1,5 @@
 -- SPDX-License-Identifier: MIT
 use native.Mathlib.Omega.{arith}
-use borrow.Author.Rules.{rules}
 use Rattle.key_record.specs.Layout.{decode}
 use Rattle.key_record.proofs.KindLaws.{sends-held}
 use Rattle.judge_seal.proofs.NextFrame.{length-told, length-fits}

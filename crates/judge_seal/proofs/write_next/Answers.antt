@@ -1,5 +1,4 @@
 -- SPDX-License-Identifier: MIT
-use borrow.Author.Rules.{rules}
 use Rattle.judge_seal.proofs.NextFrame.{header-has-room, header-written}
 use Rattle.judge_seal.proofs.write_next.Goals as goal
 

@@ -1,5 +1,4 @@
 -- SPDX-License-Identifier: MIT
-use borrow.Author.Rules.{rules}
 use Rattle.moq_c.proofs.moq_open.Goals as goal
 
 pub returns : goal.returns

@@ -1,8 +1,7 @@
 -- SPDX-License-Identifier: MIT
-use mathlib.Core.Path.{sym, ◌≡◌, ap}
-use Prim.Native.Nat.{◌-◌, ◌≤◌}
+use mathlib.Core.Path.{sym, ap}
 use native.Mathlib.Omega.{arith}
-use lib.ListN.{length, take}
+use lib.ListN.{take}
 use borrow.Author.Rules.{rules}
 use Rattle.octets.proofs.Laws.{same-lengths, same_count}
 use Rattle.octets.proofs.Loops.{taken-all, differ-next, differ-before}

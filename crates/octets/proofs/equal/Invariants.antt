@@ -1,11 +1,7 @@
 -- SPDX-License-Identifier: MIT
-use mathlib.Core.Path.{sym, ◌≡◌, ap}
+use mathlib.Core.Path.{◌≡◌}
 use Prim.Native.Nat.{◌-◌, ◌≤◌}
-use native.Mathlib.Omega.{arith}
 use lib.ListN.{length, take}
-use borrow.Author.Rules.{rules}
-use Rattle.octets.proofs.Laws.{same-lengths, same_count}
-use Rattle.octets.proofs.Loops.{taken-all, differ-next, differ-before}
 use Rattle.octets.proofs.equal.Given as goal
 
 abbrev pub invariant-loop-i : goal.invariant-loop-i

@@ -1,9 +1,5 @@
 -- SPDX-License-Identifier: MIT
-use mathlib.Core.Path.{◌≡◌}
-use mathlib.Core.List.{◌++◌}
-use Prim.Native.Nat.{◌-◌, ◌≤◌}
 use native.Mathlib.Omega.{arith}
-use lib.ListN.{length, take, drop}
 use borrow.Author.Rules.{rules}
 use Rattle.octets.proofs.Loops.{down-next, down-done}
 use Rattle.octets.proofs.move_down.Goals as goal

@@ -1,9 +1,5 @@
 -- SPDX-License-Identifier: MIT
-use mathlib.Core.Path.{◌≡◌}
-use mathlib.Core.List.{◌++◌}
-use Prim.Native.Nat.{◌-◌, ◌≤◌}
 use native.Mathlib.Omega.{arith}
-use lib.ListN.{length, take, drop}
 use borrow.Author.Rules.{rules}
 use Rattle.octets.proofs.Loops.{up_start, up_next, up_done}
 use Rattle.octets.proofs.move_up.Goals as goal

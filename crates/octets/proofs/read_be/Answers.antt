@@ -1,11 +1,9 @@
 -- SPDX-License-Identifier: MIT
-use mathlib.Core.Path.{sym, ◌≡◌}
-use Prim.Native.Nat.{◌-◌, ◌^◌, ◌≤◌, ◌<◌}
+use mathlib.Core.Path.{sym}
 use native.Mathlib.Omega.{arith}
 use borrow.Author.Rules.{rules}
 use Rattle.octets.proofs.Laws.{number-zero}
 use Rattle.octets.proofs.Loops.{number-done, number-next, number-below, number_fits}
-use Rattle.octets.specs.Octets.{number}
 use Rattle.octets.proofs.read_be.Goals as goal
 
 pub loop-i-init : goal.loop-i-init

@@ -1,10 +1,6 @@
 -- SPDX-License-Identifier: MIT
-use mathlib.Core.Path.{sym, ◌≡◌}
+use mathlib.Core.Path.{◌≡◌}
 use Prim.Native.Nat.{◌-◌, ◌^◌, ◌≤◌, ◌<◌}
-use native.Mathlib.Omega.{arith}
-use borrow.Author.Rules.{rules}
-use Rattle.octets.proofs.Laws.{number-zero}
-use Rattle.octets.proofs.Loops.{number-done, number-next, number-below, number_fits}
 use Rattle.octets.specs.Octets.{number}
 use Rattle.octets.proofs.read_be.Given as goal
 

@@ -1,6 +1,5 @@
 -- SPDX-License-Identifier: MIT
 use mathlib.Core.Path.{◌∙◌}
-use borrow.Author.Rules.{rules}
 use Rattle.octets.proofs.Loops.{number-four}
 use Rattle.octets.proofs.read_be32.Goals as goal
 

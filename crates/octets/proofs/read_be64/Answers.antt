@@ -1,5 +1,4 @@
 -- SPDX-License-Identifier: MIT
-use borrow.Author.Rules.{rules}
 use Rattle.octets.proofs.Loops.{number-eight}
 use Rattle.octets.proofs.read_be64.Goals as goal
 

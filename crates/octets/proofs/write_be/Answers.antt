@@ -1,12 +1,7 @@
 -- SPDX-License-Identifier: MIT
-use mathlib.Core.Path.{◌≡◌}
-use mathlib.Core.List.{◌++◌}
-use Prim.Native.Nat.{◌-◌, ◌/◌, ◌^◌, ◌≤◌}
 use native.Mathlib.Omega.{arith}
-use lib.ListN.{length, take, drop}
 use borrow.Author.Rules.{rules}
 use Rattle.octets.proofs.Loops.{bytes-start, rest-start, bytes-done, bytes_next, rest-next}
-use Rattle.octets.specs.Octets.{bytes}
 use Rattle.octets.proofs.write_be.Goals as goal
 
 pub loop-i-init : goal.loop-i-init

@@ -2,10 +2,7 @@
 use mathlib.Core.Path.{◌≡◌}
 use mathlib.Core.List.{◌++◌}
 use Prim.Native.Nat.{◌-◌, ◌/◌, ◌^◌, ◌≤◌}
-use native.Mathlib.Omega.{arith}
 use lib.ListN.{length, take, drop}
-use borrow.Author.Rules.{rules}
-use Rattle.octets.proofs.Loops.{bytes-start, rest-start, bytes-done, bytes_next, rest-next}
 use Rattle.octets.specs.Octets.{bytes}
 use Rattle.octets.proofs.write_be.Given as goal
 

@@ -1,7 +1,6 @@
 -- SPDX-License-Identifier: MIT
 use native.Mathlib.Omega.{arith}
 use lib.ListN.{length-set}
-use borrow.Author.Rules.{rules}
 use Rattle.octets.proofs.Loops.{bytes-four}
 use Rattle.octets.proofs.write_be32.Goals as goal
 

@@ -1,5 +1,4 @@
 -- SPDX-License-Identifier: MIT
-use borrow.Author.Rules.{rules}
 use Rattle.octets.proofs.Loops.{bytes-eight}
 use Rattle.octets.proofs.write_be64.Goals as goal
 

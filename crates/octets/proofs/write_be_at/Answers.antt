@@ -1,5 +1,4 @@
 -- SPDX-License-Identifier: MIT
-use borrow.Author.Rules.{rules}
 use Rattle.octets.proofs.Laws.{lent-bytes}
 use Rattle.octets.proofs.write_be_at.Goals as goal
 

@@ -4,7 +4,6 @@ use Rattle.track_record.proofs.Records.{told-nothing, told}
 use Rattle.track_record.specs.Layout.{decode}
 use mathlib.Core.Bool.{false≢true}
 use mathlib.Core.Path.{sym, ◌∙◌}
-use borrow.Author.Rules.{rules}
 use mathlib.Core.Bool.{not}
 use mathlib.Core.Path.{ap}
 use Rattle.open_object.proofs.judge.Goals as goal

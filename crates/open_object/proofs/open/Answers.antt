@@ -5,7 +5,6 @@ use Rattle.track_record.specs.Record.{track_id}
 use Rattle.octets.specs.Octets.{Octets}
 use native.Mathlib.Omega.{arith}
 use mathlib.Core.Path.{◌∙◌}
-use borrow.Author.Rules.{rules}
 use mathlib.Core.Bool.{not}
 use mathlib.Core.Path.{ap}
 use Rattle.open_object.proofs.open.Goals as goal

@@ -1,6 +1,5 @@
 -- SPDX-License-Identifier: MIT
 use Rattle.pair_log.proofs.Writing.{digit_low, digit-high}
-use borrow.Author.Rules.{rules}
 use Rattle.pair_log.proofs.digit.Goals as goal
 
 pub returns-then-d-lt10 : goal.returns-then-d-lt10

@@ -1,6 +1,5 @@
 -- SPDX-License-Identifier: MIT
 use Rattle.pair_log.proofs.Gathering.{other-ctr, same-ctr}
-use borrow.Author.Rules.{rules}
 use Rattle.pair_log.proofs.equal.Goals as goal
 
 pub returns-then-ctr-ctr2 : goal.returns-then-ctr-ctr2

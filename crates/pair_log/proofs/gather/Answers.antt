@@ -1,7 +1,6 @@
 -- SPDX-License-Identifier: MIT
-use mathlib.Core.Path.{◌≡◌, refl, ◌∙◌}
-use lib.ListN.{length}
-use Rattle.pair_log.proofs.Gathering.{Gathered, gather-starts, gather-room, gather-fits, gather-inserts, gather-passes, gather-ends}
+use mathlib.Core.Path.{refl}
+use Rattle.pair_log.proofs.Gathering.{gather-starts, gather-room, gather-fits, gather-inserts, gather-passes, gather-ends}
 use borrow.Author.Rules.{rules}
 use Rattle.pair_log.proofs.gather.Goals as goal
 

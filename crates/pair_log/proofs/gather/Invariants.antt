@@ -1,8 +1,7 @@
 -- SPDX-License-Identifier: MIT
-use mathlib.Core.Path.{◌≡◌, refl, ◌∙◌}
+use mathlib.Core.Path.{◌≡◌}
 use lib.ListN.{length}
-use Rattle.pair_log.proofs.Gathering.{Gathered, gather-starts, gather-room, gather-fits, gather-inserts, gather-passes, gather-ends}
-use borrow.Author.Rules.{rules}
+use Rattle.pair_log.proofs.Gathering.{Gathered}
 use Rattle.pair_log.proofs.gather.Given as goal
 
 abbrev pub invariant-loop-left : goal.invariant-loop-left

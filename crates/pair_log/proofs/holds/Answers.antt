@@ -4,7 +4,6 @@ use Prim.Native.Nat.{ℕ}
 use lib.Dec.{eqb}
 use Rattle.pair_log.specs.Inner.Listed.{pair}
 use Rattle.pair_log.proofs.Gathering.{record_is}
-use borrow.Author.Rules.{rules}
 use Rattle.pair_log.proofs.holds.Goals as goal
 
 pub returns : goal.returns

@@ -1,7 +1,6 @@
 -- SPDX-License-Identifier: MIT
 use Rattle.pair_log.proofs.Gathering.{insert-old, insert-new}
 use native.Mathlib.Omega.{arith}
-use borrow.Author.Rules.{rules}
 use Rattle.pair_log.proofs.insert.Goals as goal
 
 pub returns-then-is_at : goal.returns-then-is_at

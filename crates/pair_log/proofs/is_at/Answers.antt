@@ -1,7 +1,6 @@
 -- SPDX-License-Identifier: MIT
 use Rattle.pair_log.proofs.Gathering.{at_none, at_some}
 use mathlib.Core.Path.{◌∙◌}
-use borrow.Author.Rules.{rules}
 use Rattle.pair_log.proofs.is_at.Goals as goal
 
 pub returns-then-n-i : goal.returns-then-n-i

@@ -1,6 +1,5 @@
 -- SPDX-License-Identifier: MIT
 use Rattle.pair_log.proofs.Gathering.{less-kid, more-kid, same-kid}
-use borrow.Author.Rules.{rules}
 use Rattle.pair_log.proofs.less.Goals as goal
 
 pub returns-then-kid-kid2 : goal.returns-then-kid-kid2

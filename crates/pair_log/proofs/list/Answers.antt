@@ -1,6 +1,5 @@
 -- SPDX-License-Identifier: MIT
 use Rattle.pair_log.proofs.Writing.{answers-same, listing-of}
-use borrow.Author.Rules.{rules}
 use Rattle.pair_log.proofs.list.Goals as goal
 
 pub returns : goal.returns

@@ -1,6 +1,5 @@
 -- SPDX-License-Identifier: MIT
 use Rattle.pair_log.proofs.Writing.{sizes-join}
-use borrow.Author.Rules.{rules}
 use Rattle.pair_log.proofs.listing_size.Goals as goal
 
 pub returns : goal.returns

@@ -1,8 +1,6 @@
 -- SPDX-License-Identifier: MIT
-use Prim.Native.Nat.{◌-◌}
 use Rattle.pair_log.specs.Inner.Listed.{pair}
-use Rattle.pair_log.proofs.Gathering.{Placing, place-starts, place-finds, place-goes-on, place-ends}
-use borrow.Author.Rules.{rules}
+use Rattle.pair_log.proofs.Gathering.{place-starts, place-finds, place-goes-on, place-ends}
 use mathlib.Core.Bool.{not}
 use mathlib.Core.Path.{ap}
 use Rattle.pair_log.proofs.place.Goals as goal

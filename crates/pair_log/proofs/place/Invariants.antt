@@ -1,8 +1,7 @@
 -- SPDX-License-Identifier: MIT
 use Prim.Native.Nat.{◌-◌}
 use Rattle.pair_log.specs.Inner.Listed.{pair}
-use Rattle.pair_log.proofs.Gathering.{Placing, place-starts, place-finds, place-goes-on, place-ends}
-use borrow.Author.Rules.{rules}
+use Rattle.pair_log.proofs.Gathering.{Placing}
 use Rattle.pair_log.proofs.place.Given as goal
 
 abbrev pub invariant-loop-i : goal.invariant-loop-i

@@ -1,6 +1,5 @@
 -- SPDX-License-Identifier: MIT
 use Rattle.pair_log.proofs.Writing.{place-one, place-two, place-three, place-four}
-use borrow.Author.Rules.{rules}
 use Rattle.pair_log.proofs.places.Goals as goal
 
 pub returns-then-x-lt10 : goal.returns-then-x-lt10

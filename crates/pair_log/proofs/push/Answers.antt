@@ -1,8 +1,5 @@
 -- SPDX-License-Identifier: MIT
-use Prim.Native.Nat.{◌-◌}
-use lib.ListN.{length}
-use Rattle.pair_log.proofs.Gathering.{Pushing, push-starts, push-goes-on, push-ends}
-use borrow.Author.Rules.{rules}
+use Rattle.pair_log.proofs.Gathering.{push-starts, push-goes-on, push-ends}
 use Rattle.pair_log.proofs.push.Goals as goal
 
 pub loop-i-init : goal.loop-i-init

@@ -1,8 +1,7 @@
 -- SPDX-License-Identifier: MIT
 use Prim.Native.Nat.{◌-◌}
 use lib.ListN.{length}
-use Rattle.pair_log.proofs.Gathering.{Pushing, push-starts, push-goes-on, push-ends}
-use borrow.Author.Rules.{rules}
+use Rattle.pair_log.proofs.Gathering.{Pushing}
 use Rattle.pair_log.proofs.push.Given as goal
 
 abbrev pub invariant-loop-i : goal.invariant-loop-i

@@ -1,6 +1,5 @@
 -- SPDX-License-Identifier: MIT
 use Rattle.pair_log.proofs.Writing.{answers-same, report-long, report-bad, report-whole}
-use borrow.Author.Rules.{rules}
 use Rattle.pair_log.proofs.report.Goals as goal
 
 pub returns-then-log-gt-MAX_LOG : goal.returns-then-log-gt-MAX_LOG

@@ -1,8 +1,6 @@
 -- SPDX-License-Identifier: MIT
-use Prim.Native.Nat.{◌-◌}
 use Rattle.pair_log.specs.Inner.Listed.{pair}
-use Rattle.pair_log.proofs.Gathering.{Searching, search-starts, search-finds, search-goes-on, search-ends}
-use borrow.Author.Rules.{rules}
+use Rattle.pair_log.proofs.Gathering.{search-starts, search-finds, search-goes-on, search-ends}
 use Rattle.pair_log.proofs.stands.Goals as goal
 
 pub loop-i-init : goal.loop-i-init

@@ -1,8 +1,7 @@
 -- SPDX-License-Identifier: MIT
 use Prim.Native.Nat.{◌-◌}
 use Rattle.pair_log.specs.Inner.Listed.{pair}
-use Rattle.pair_log.proofs.Gathering.{Searching, search-starts, search-finds, search-goes-on, search-ends}
-use borrow.Author.Rules.{rules}
+use Rattle.pair_log.proofs.Gathering.{Searching}
 use Rattle.pair_log.proofs.stands.Given as goal
 
 abbrev pub invariant-loop-i : goal.invariant-loop-i

@@ -1,6 +1,5 @@
 -- SPDX-License-Identifier: MIT
-use Rattle.pair_log.proofs.Writing.{digit-fits, Spelling, spell-starts, spell-goes-on, spell-ends}
-use borrow.Author.Rules.{rules}
+use Rattle.pair_log.proofs.Writing.{digit-fits, spell-starts, spell-goes-on, spell-ends}
 use Rattle.pair_log.proofs.write_digits.Goals as goal
 
 pub loop-i-init : goal.loop-i-init

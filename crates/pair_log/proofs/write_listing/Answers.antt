@@ -3,7 +3,6 @@ use mathlib.Core.Path.{◌∙◌}
 use Rattle.pair_log.specs.Inner.Listed.{listed}
 use Rattle.pair_log.proofs.Gathering.{listed-length}
 use Rattle.pair_log.proofs.Writing.{listing-refused, listing-written}
-use borrow.Author.Rules.{rules}
 use Rattle.pair_log.proofs.write_listing.Goals as goal
 
 pub returns-then-room-size : goal.returns-then-room-size

@@ -1,6 +1,5 @@
 -- SPDX-License-Identifier: MIT
 use Rattle.pair_log.proofs.Writing.{number-written}
-use borrow.Author.Rules.{rules}
 use Rattle.pair_log.proofs.write_number.Goals as goal
 
 pub returns : goal.returns

@@ -1,6 +1,5 @@
 -- SPDX-License-Identifier: MIT
 use Rattle.pair_log.proofs.Writing.{pair-written}
-use borrow.Author.Rules.{rules}
 use Rattle.pair_log.proofs.write_pair.Goals as goal
 
 pub returns : goal.returns

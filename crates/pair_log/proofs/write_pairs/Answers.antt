@@ -1,8 +1,6 @@
 -- SPDX-License-Identifier: MIT
-use Prim.Native.Nat.{◌-◌}
-use Rattle.pair_log.proofs.Writing.{Lining, lines_start, lines-go-on, lines_end}
+use Rattle.pair_log.proofs.Writing.{lines_start, lines-go-on, lines_end}
 use native.Mathlib.Omega.{arith}
-use borrow.Author.Rules.{rules}
 use Rattle.pair_log.proofs.write_pairs.Goals as goal
 
 pub loop-i-init : goal.loop-i-init

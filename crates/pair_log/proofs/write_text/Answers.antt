@@ -1,7 +1,6 @@
 -- SPDX-License-Identifier: MIT
 use mathlib.Core.Path.{refl, ◌∙◌}
 use Rattle.pair_log.proofs.Writing.{written-refused, written-done}
-use borrow.Author.Rules.{rules}
 use Rattle.pair_log.proofs.write_text.Goals as goal
 
 pub returns-then-room-text : goal.returns-then-room-text

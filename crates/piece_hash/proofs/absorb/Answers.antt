@@ -1,10 +1,9 @@
 -- SPDX-License-Identifier: MIT
 use Rattle.piece_hash.proofs.Steps.{absorbed-short, absorbed}
-use Prim.Native.Nat.{ℕ, ◌+◌, ◌-◌}
-use mathlib.Core.Path.{◌≡◌, refl, sym, ◌∙◌, ap}
-use lib.ListN.{length, take, drop, length-take, length-drop, length-append}
+use Prim.Native.Nat.{◌-◌}
+use mathlib.Core.Path.{refl}
+use lib.ListN.{length, length-take}
 use native.Mathlib.Omega.{arith}
-use borrow.Author.Rules.{rules}
 use Rattle.piece_hash.proofs.absorb.Goals as goal
 
 pub returns-then-have-c-lt-BLOCK : goal.returns-then-have-c-lt-BLOCK

@@ -1,9 +1,8 @@
 -- SPDX-License-Identifier: MIT
 use Rattle.piece_hash.proofs.Steps.{fed-held}
 use Rattle.sha2_common.specs.Running.{State}
-use mathlib.Core.Path.{◌≡◌, refl, sym, ◌∙◌, ap}
+use mathlib.Core.Path.{◌≡◌, ap}
 use native.Mathlib.Omega.{arith}
-use borrow.Author.Rules.{rules}
 use Rattle.piece_hash.proofs.feed.Goals as goal
 
 pub feed-h-requires : goal.feed-h-requires

@@ -1,8 +1,7 @@
 -- SPDX-License-Identifier: MIT
 use Rattle.piece_hash.proofs.Steps.{fed-blocks}
-use mathlib.Core.Path.{◌≡◌, refl, sym, ◌∙◌, ap}
+use mathlib.Core.Path.{refl}
 use native.Mathlib.Omega.{arith}
-use borrow.Author.Rules.{rules}
 use Rattle.piece_hash.proofs.feed_blocks.Goals as goal
 
 pub returns : goal.returns

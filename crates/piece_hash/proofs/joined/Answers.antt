@@ -1,7 +1,7 @@
 -- SPDX-License-Identifier: MIT
 use Rattle.piece_hash.proofs.Steps.{filled}
-use lib.ListN.{length, take, drop, length-take, length-drop, length-append}
-use mathlib.Core.Path.{◌≡◌, refl, sym, ◌∙◌, ap}
+use lib.ListN.{length}
+use mathlib.Core.Path.{refl}
 use native.Mathlib.Omega.{arith}
 use borrow.Author.Rules.{rules}
 use Rattle.piece_hash.proofs.joined.Goals as goal

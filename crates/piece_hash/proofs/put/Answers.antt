@@ -1,7 +1,6 @@
 -- SPDX-License-Identifier: MIT
 use Rattle.piece_hash.proofs.Steps.{filled}
 use native.Mathlib.Omega.{arith}
-use borrow.Author.Rules.{rules}
 use Rattle.piece_hash.proofs.put.Goals as goal
 
 pub returns : goal.returns

@@ -1,7 +1,6 @@
 -- SPDX-License-Identifier: MIT
 use Rattle.piece_hash.proofs.Steps.{saved}
 use Rattle.sha256.specs.Inner.State.{state256}
-use borrow.Author.Rules.{rules}
 use Rattle.piece_hash.proofs.save.Goals as goal
 
 pub returns : goal.returns

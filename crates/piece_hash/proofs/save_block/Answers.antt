@@ -1,6 +1,5 @@
 -- SPDX-License-Identifier: MIT
 use Rattle.piece_hash.proofs.Steps.{block-kept}
-use borrow.Author.Rules.{rules}
 use Rattle.piece_hash.proofs.save_block.Goals as goal
 
 pub returns : goal.returns

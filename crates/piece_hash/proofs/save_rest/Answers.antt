@@ -1,11 +1,8 @@
 -- SPDX-License-Identifier: MIT
-use Rattle.piece_hash.proofs.Steps.{waiting-in, kept-short, kept-long}
-use Rattle.piece_hash.specs.Held.{room_in}
-use Prim.Native.Nat.{ℕ, ◌+◌, ◌-◌}
-use mathlib.Core.Path.{◌≡◌, refl, sym, ◌∙◌, ap}
-use lib.ListN.{length, take, drop, length-take, length-drop, length-append}
+use Rattle.piece_hash.proofs.Steps.{kept-short, kept-long}
+use mathlib.Core.Path.{refl}
+use lib.ListN.{length-take}
 use native.Mathlib.Omega.{arith}
-use borrow.Author.Rules.{rules}
 use Rattle.piece_hash.proofs.save_rest.Goals as goal
 
 pub slice_bounds-save_block-end : goal.slice_bounds-save_block-end

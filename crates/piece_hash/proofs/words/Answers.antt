@@ -1,9 +1,7 @@
 -- SPDX-License-Identifier: MIT
 use Prim.Native.Nat.{◌+◌, ◌≤◌}
 use Rattle.piece_hash.proofs.Steps.{words-read, word-lent}
-use lib.ListN.{length, take, drop, length-take, length-drop, length-append}
-use native.Mathlib.Omega.{arith}
-use borrow.Author.Rules.{rules}
+use lib.ListN.{length}
 use Rattle.piece_hash.proofs.words.Goals as goal
 
 pub read_be32-requires-8 : goal.read_be32-requires-8

@@ -1,6 +1,5 @@
 -- SPDX-License-Identifier: MIT
 use Rattle.piece_line.proofs.Steps.{context-part}
-use borrow.Author.Rules.{rules}
 use Rattle.piece_line.proofs.context_of.Goals as goal
 
 pub returns : goal.returns

@@ -1,7 +1,6 @@
 -- SPDX-License-Identifier: MIT
 use Rattle.piece_line.proofs.Steps.{ended-hmac}
 use mathlib.Core.Path.{refl}
-use borrow.Author.Rules.{rules}
 use Rattle.piece_line.proofs.hmac_tag.Goals as goal
 
 pub returns : goal.returns

@@ -5,7 +5,6 @@ use native.Mathlib.Omega.{arith}
 use Rattle.suites.specs.declared.sizes.Mode.TheVariants.{Gcm}
 use Rattle.piece_stream.proofs.Laws.{from-length}
 use Rattle.piece_line.proofs.Steps.{nonce-sized, ready, state-key, sealed}
-use borrow.Author.Rules.{rules}
 use Rattle.piece_line.proofs.seal_gcm.Goals as goal
 
 pub front-f-requires : goal.front-f-requires

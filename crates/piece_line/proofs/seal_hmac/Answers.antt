@@ -3,7 +3,6 @@ use mathlib.Core.Path.{refl}
 use native.Mathlib.Omega.{arith}
 use Rattle.suites.specs.declared.sizes.Mode.TheVariants.{CtrHmac}
 use Rattle.piece_line.proofs.Steps.{nonce-sized, ready, sealed}
-use borrow.Author.Rules.{rules}
 use Rattle.piece_line.proofs.seal_hmac.Goals as goal
 
 pub apply_from-requires : goal.apply_from-requires

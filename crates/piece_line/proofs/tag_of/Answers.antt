@@ -4,7 +4,6 @@ use lib.Seq.{take_all}
 use Rattle.suites.proofs.Laws.{gcm-sizes}
 use mathlib.Core.Path.{sym, ◌∙◌}
 use native.Mathlib.Omega.{arith}
-use borrow.Author.Rules.{rules}
 use Rattle.piece_line.proofs.tag_of.Goals as goal
 
 pub returns-in-CtrHmac : goal.returns-in-CtrHmac

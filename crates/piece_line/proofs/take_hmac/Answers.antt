@@ -1,7 +1,6 @@
 -- SPDX-License-Identifier: MIT
 use mathlib.Core.Path.{refl}
 use Rattle.piece_line.proofs.Steps.{lent-hash, more-hmac, taken_in_lem}
-use borrow.Author.Rules.{rules}
 use Rattle.piece_line.proofs.take_hmac.Goals as goal
 
 pub returns : goal.returns

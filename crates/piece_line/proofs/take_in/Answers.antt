@@ -1,7 +1,6 @@
 -- SPDX-License-Identifier: MIT
 use mathlib.Core.Path.{sym, ◌∙◌}
 use Rattle.piece_line.proofs.Steps.{nonce-sized, ready, state-key}
-use borrow.Author.Rules.{rules}
 use Rattle.piece_line.proofs.take_in.Goals as goal
 
 pub hash_key-h-requires : goal.hash_key-h-requires

@@ -1,14 +1,10 @@
 -- SPDX-License-Identifier: MIT
-use mathlib.Core.Path.{◌≡◌, refl, sym, ◌∙◌, ap}
-use mathlib.Core.List.{List, ◌++◌}
-use Prim.Native.Nat.{ℕ, ◌+◌, ◌*◌, ◌-◌, ◌/◌, ◌%◌, ◌≤◌}
-use native.Mathlib.Omega.{arith}
+use mathlib.Core.Path.{◌≡◌}
+use mathlib.Core.List.{◌++◌}
+use Prim.Native.Nat.{◌-◌, ◌≤◌}
 use lib.ListN.{length, take, drop}
 use Rattle.aes_keys.specs.Inner.Keys.{key_of}
-use Rattle.gcm_batch.proofs.Batches.{part_length}
 use Rattle.piece_stream.specs.CounterFrom.{ctr_from}
-use Rattle.piece_stream.proofs.Laws.{counters-part, from-none, step, done}
-use borrow.Author.Rules.{rules}
 use Rattle.piece_stream.proofs.apply_from.Given as goal
 
 abbrev pub invariant-loop-i : goal.invariant-loop-i

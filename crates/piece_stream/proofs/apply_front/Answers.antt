@@ -1,7 +1,5 @@
 -- SPDX-License-Identifier: MIT
-use Rattle.aes_keys.specs.Inner.Keys.{key_of}
 use Rattle.piece_stream.proofs.Laws.{rest-length, rest-counts, front-applied}
-use borrow.Author.Rules.{rules}
 use Rattle.piece_stream.proofs.apply_front.Goals as goal
 
 pub apply_from-requires : goal.apply_from-requires

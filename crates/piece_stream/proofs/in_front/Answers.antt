@@ -1,7 +1,6 @@
 -- SPDX-License-Identifier: MIT
 use native.Mathlib.Omega.{arith}
 use Rattle.piece_stream.proofs.Laws.{front-none, front-has}
-use borrow.Author.Rules.{rules}
 use Rattle.piece_stream.proofs.in_front.Goals as goal
 
 pub returns-then-i-lt-BLOCK : goal.returns-then-i-lt-BLOCK

@@ -4,7 +4,6 @@ use Rattle.piece_line.proofs.Steps.{known-possible}
 use Rattle.pieces.proofs.CallSteps.{tag-unknown, tag-early, tag-length, tag-differs, tag_same}
 use Rattle.piece_line.specs.State.{checking}
 use native.Mathlib.Omega.{arith}
-use borrow.Author.Rules.{rules}
 use mathlib.Core.Bool.{not}
 use mathlib.Core.Path.{ap}
 use Rattle.pieces.proofs.check_end.Goals as goal

@@ -3,7 +3,6 @@ use Rattle.pieces.proofs.CallSteps.{within, check-unknown, check-past, check_don
 use Rattle.piece_line.proofs.Steps.{known-possible}
 use Rattle.piece_line.specs.State.{checking}
 use mathlib.Core.Path.{◌∙◌}
-use borrow.Author.Rules.{rules}
 use Rattle.pieces.proofs.check_piece.Goals as goal
 
 pub returns-in_default : goal.returns-in_default

@@ -2,7 +2,6 @@
 use lib.ListN.{length}
 use Rattle.piece_line.proofs.Steps.{cipher-length}
 use Rattle.pieces.proofs.CallSteps.{lent-front}
-use borrow.Author.Rules.{rules}
 use Rattle.pieces.proofs.encrypt_piece.Goals as goal
 
 pub returns : goal.returns

@@ -1,7 +1,6 @@
 -- SPDX-License-Identifier: MIT
 use Rattle.pieces.proofs.CallSteps.{past_is}
 use mathlib.Core.Path.{refl}
-use borrow.Author.Rules.{rules}
 use Rattle.pieces.proofs.is_past.Goals as goal
 
 pub returns : goal.returns

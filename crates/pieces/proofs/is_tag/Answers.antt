@@ -1,7 +1,6 @@
 -- SPDX-License-Identifier: MIT
 use mathlib.Core.Path.{refl}
 use native.Mathlib.Omega.{arith}
-use borrow.Author.Rules.{rules}
 use Rattle.suites.proofs.Laws.{Nt-most}
 use Rattle.pieces.proofs.CallSteps.{whole-tag}
 use Rattle.pieces.proofs.is_tag.Goals as goal

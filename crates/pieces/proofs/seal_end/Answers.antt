@@ -4,7 +4,6 @@ use Rattle.pieces.proofs.CallSteps.{first_part, tag_fits, within, end-unknown, e
 use Rattle.piece_line.specs.State.{sealing}
 use native.Mathlib.Omega.{arith}
 use mathlib.Core.Path.{◌∙◌}
-use borrow.Author.Rules.{rules}
 use Rattle.pieces.proofs.seal_end.Goals as goal
 
 pub returns-in_default : goal.returns-in_default

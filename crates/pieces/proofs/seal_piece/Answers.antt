@@ -4,7 +4,6 @@ use Rattle.piece_line.proofs.Steps.{known-possible}
 use Rattle.piece_line.specs.State.{sealing}
 use native.Mathlib.Omega.{arith}
 use mathlib.Core.Path.{◌∙◌}
-use borrow.Author.Rules.{rules}
 use Rattle.pieces.proofs.seal_piece.Goals as goal
 
 pub returns-in_default : goal.returns-in_default

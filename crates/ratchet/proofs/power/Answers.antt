@@ -1,5 +1,4 @@
 -- SPDX-License-Identifier: MIT
-use borrow.Author.Rules.{rules}
 use Rattle.ratchet.proofs.Steps.{power-is}
 use Rattle.ratchet.proofs.power.Goals as goal
 

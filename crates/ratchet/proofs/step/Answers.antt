@@ -1,6 +1,5 @@
 -- SPDX-License-Identifier: MIT
 use mathlib.Core.Path.{refl}
-use borrow.Author.Rules.{rules}
 use Rattle.ratchet.proofs.Steps.{step-made}
 use Rattle.ratchet.proofs.step.Goals as goal
 

@@ -1,10 +1,6 @@
 -- SPDX-License-Identifier: MIT
-use mathlib.Core.Path.{sym, ◌∙◌}
 use Prim.Native.Nat.{◌-◌}
-use native.Mathlib.Omega.{arith}
-use lib.ListN.{length}
-use borrow.Author.Rules.{rules}
-use Rattle.ratchet.proofs.Steps.{Walking, size_none, size-some, walked_none, walk-starts, walk-goes-on, walk_ends}
+use Rattle.ratchet.proofs.Steps.{Walking}
 use Rattle.ratchet.proofs.take_steps.Given as goal
 
 abbrev pub invariant-loop-i : goal.invariant-loop-i

@@ -2,7 +2,6 @@
 use mathlib.Core.Path.{sym, ◌∙◌}
 use native.Mathlib.Omega.{arith}
 use lib.ListN.{length}
-use borrow.Author.Rules.{rules}
 use Rattle.ratchet.proofs.Steps.{judged, steps-fit, front-walked, walk-unknown, walk_refused, walk-done}
 use Rattle.ratchet.proofs.walk.Goals as goal
 

@@ -1,6 +1,5 @@
 -- SPDX-License-Identifier: MIT
 use mathlib.Core.Path.{sym, ◌∙◌}
-use borrow.Author.Rules.{rules}
 use Rattle.ratchet.proofs.Steps.{size_none, size-some}
 use Rattle.ratchet.proofs.walked_size.Goals as goal
 

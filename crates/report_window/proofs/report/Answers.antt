@@ -2,7 +2,6 @@
 use mathlib.Core.Path.{◌≡◌, ◌∙◌}
 use mathlib.Core.Bool.{true}
 use native.Mathlib.Omega.{arith}
-use borrow.Author.Rules.{rules}
 use Rattle.answers.proofs.Basics.{told-true}
 use Rattle.store.specs.Store.{sound}
 use Rattle.store.proofs.Places.{tested-sound, found_within}

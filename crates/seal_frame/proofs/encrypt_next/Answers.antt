@@ -1,6 +1,4 @@
 -- SPDX-License-Identifier: MIT
-use native.Mathlib.Omega.{arith}
-use borrow.Author.Rules.{rules}
 use Rattle.key_record.specs.Layout.{decode}
 use Rattle.key_record.proofs.KindLaws.{sends-keyed}
 use Rattle.seal_frame.proofs.SealSteps.{body_is}

@@ -1,7 +1,6 @@
 -- SPDX-License-Identifier: MIT
-use mathlib.Core.Path.{refl, ◌∙◌}
+use mathlib.Core.Path.{◌∙◌}
 use native.Mathlib.Omega.{arith}
-use borrow.Author.Rules.{rules}
 use Rattle.store.proofs.Places.{tested-sound, found_within}
 use Rattle.seal_frame.proofs.SealSteps.{seal-unsound, seal-missing, held-there, seal-refused, judged-again, clear-there, counter-below, seal-done}
 use mathlib.Core.Bool.{not}

@@ -1,5 +1,4 @@
 -- SPDX-License-Identifier: MIT
-use borrow.Author.Rules.{rules}
 use Rattle.seal_frame.proofs.SealSteps.{sealed-at}
 use Rattle.seal_frame.proofs.seal_at.Goals as goal
 

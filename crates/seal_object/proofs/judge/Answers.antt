@@ -5,7 +5,6 @@ use Rattle.track_record.specs.Layout.{decode}
 use native.Mathlib.Omega.{arith}
 use mathlib.Core.Bool.{false≢true}
 use mathlib.Core.Path.{sym, ◌∙◌}
-use borrow.Author.Rules.{rules}
 use mathlib.Core.Bool.{not}
 use mathlib.Core.Path.{ap}
 use Rattle.seal_object.proofs.judge.Goals as goal

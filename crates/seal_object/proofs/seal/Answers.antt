@@ -4,8 +4,7 @@ use Rattle.tracks.proofs.Places.{tested-sound, tested-whole, found_within}
 use Rattle.track_record.specs.Record.{track_id}
 use Rattle.octets.specs.Octets.{Octets}
 use native.Mathlib.Omega.{arith}
-use mathlib.Core.Path.{refl, ◌∙◌}
-use borrow.Author.Rules.{rules}
+use mathlib.Core.Path.{◌∙◌}
 use mathlib.Core.Bool.{not}
 use mathlib.Core.Path.{ap}
 use Rattle.seal_object.proofs.seal.Goals as goal

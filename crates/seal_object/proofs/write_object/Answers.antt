@@ -6,7 +6,6 @@ use Rattle.track_record.specs.Layout.{decode}
 use native.Mathlib.Omega.{arith}
 use mathlib.Core.Bool.{false≢true}
 use mathlib.Core.Path.{refl, sym, ◌∙◌}
-use borrow.Author.Rules.{rules}
 use Rattle.seal_object.proofs.write_object.Goals as goal
 
 pub returns-in_default : goal.returns-in_default

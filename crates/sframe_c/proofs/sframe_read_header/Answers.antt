@@ -1,6 +1,5 @@
 -- SPDX-License-Identifier: MIT
 use mathlib.Core.Path.{sym, ◌∙◌}
-use borrow.Author.Rules.{rules}
 use Rattle.sframe_c.proofs.sframe_read_header.Goals as goal
 
 pub returns-in-Header : goal.returns-in-Header

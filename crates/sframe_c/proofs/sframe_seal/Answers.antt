@@ -1,5 +1,4 @@
 -- SPDX-License-Identifier: MIT
-use borrow.Author.Rules.{rules}
 use Rattle.sframe_c.proofs.sframe_seal.Goals as goal
 
 pub returns : goal.returns

@@ -1,6 +1,5 @@
 -- SPDX-License-Identifier: MIT
 use mathlib.Core.Path.{◌∙◌, ap}
-use borrow.Author.Rules.{rules}
 use Rattle.header.specs.Answers.{written_number, written_length}
 use Rattle.sframe_c.proofs.sframe_write_header.Goals as goal
 

@@ -1,8 +1,6 @@
 -- SPDX-License-Identifier: MIT
-use Rattle.std.proofs.Common.{◌≡◌, ◌-◌, ◌≤◌, length, drop, sym, refl, ◌∙◌, arith, length-drop, length-take, rules}
-use Rattle.sha2_common.specs.Sha2.{run}
+use Rattle.std.proofs.Common.{sym, refl, ◌∙◌, arith, length-drop, length-take}
 use Rattle.sha2_common.specs.Sizes.{sha256, constants256}
-use Rattle.sha256.specs.Inner.State.{words256}
 use Rattle.sha2_common.proofs.Laws.{run-next, run_short}
 use Rattle.sha256.proofs.blocks.Goals as goal
 

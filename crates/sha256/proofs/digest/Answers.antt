@@ -1,5 +1,5 @@
 -- SPDX-License-Identifier: MIT
-use Rattle.std.proofs.Common.{◌≡◌, ◌-◌, ◌*◌, ◌≤◌, length, take, sym, refl, ◌∙◌, arith, take_all, rules}
+use Rattle.std.proofs.Common.{◌≡◌, ◌-◌, ◌*◌, sym, refl, ◌∙◌, arith, take_all}
 use borrow.Rule.Slice.PartMut.{same_len_mid}
 use Rattle.sha2_common.specs.Sha2.{joined}
 use Rattle.sha2_common.specs.Sizes.{sha256}

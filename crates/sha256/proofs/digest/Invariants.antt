@@ -1,9 +1,7 @@
 -- SPDX-License-Identifier: MIT
-use Rattle.std.proofs.Common.{◌≡◌, ◌-◌, ◌*◌, ◌≤◌, length, take, sym, refl, ◌∙◌, arith, take_all, rules}
-use borrow.Rule.Slice.PartMut.{same_len_mid}
+use Rattle.std.proofs.Common.{◌≡◌, ◌-◌, ◌*◌, ◌≤◌, length, take}
 use Rattle.sha2_common.specs.Sha2.{joined}
 use Rattle.sha2_common.specs.Sizes.{sha256}
-use Rattle.sha2_common.proofs.Steps.{joined_step}
 use Rattle.sha256.proofs.digest.Given as goal
 
 abbrev pub invariant-loop-i : goal.invariant-loop-i

@@ -1,5 +1,5 @@
 -- SPDX-License-Identifier: MIT
-use Rattle.std.proofs.Common.{arith, length-set, rules}
+use Rattle.std.proofs.Common.{arith, length-set}
 use Rattle.sha2_common.specs.Sizes.{sha256}
 use Rattle.sha2_common.proofs.Steps.{halfway-step}
 use Rattle.sha256.proofs.extend.Goals as goal

@@ -1,9 +1,6 @@
 -- SPDX-License-Identifier: MIT
-use Rattle.std.proofs.Common.{◌≡◌, ℕ, ◌-◌, ◌%◌, ◌≤◌, List, length, take, refl, arith, rules}
-use Rattle.sha2_common.specs.Sha2.{words}
+use Rattle.std.proofs.Common.{◌≡◌, refl, arith, rules}
 use Rattle.sha2_common.specs.Sizes.{sha256}
-use Rattle.sha2_common.specs.Inner.Rounds.{Halfway}
-use Rattle.sha256.specs.Inner.State.{words256}
 use Rattle.sha2_common.proofs.Steps.{halfway-holds}
 use Rattle.sha256.proofs.first_rounds.Goals as goal
 

@@ -1,10 +1,9 @@
 -- SPDX-License-Identifier: MIT
-use Rattle.std.proofs.Common.{◌≡◌, ℕ, ◌-◌, ◌%◌, ◌≤◌, List, length, take, refl, arith, rules}
+use Rattle.std.proofs.Common.{◌≡◌, ℕ, ◌-◌, ◌%◌, ◌≤◌, List, length, take}
 use Rattle.sha2_common.specs.Sha2.{words}
 use Rattle.sha2_common.specs.Sizes.{sha256}
 use Rattle.sha2_common.specs.Inner.Rounds.{Halfway}
 use Rattle.sha256.specs.Inner.State.{words256}
-use Rattle.sha2_common.proofs.Steps.{halfway-holds}
 use Rattle.sha256.proofs.first_rounds.Given as goal
 
 abbrev pub invariant-loop-t : goal.invariant-loop-t

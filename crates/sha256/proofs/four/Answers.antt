@@ -1,5 +1,5 @@
 -- SPDX-License-Identifier: MIT
-use Rattle.std.proofs.Common.{refl, rules}
+use Rattle.std.proofs.Common.{refl}
 use Rattle.sha2_common.specs.Sizes.{sha256}
 use Rattle.sha2_common.proofs.Steps.{rounds-at}
 use Rattle.sha256.proofs.four.Goals as goal

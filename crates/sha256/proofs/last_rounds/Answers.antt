@@ -1,8 +1,5 @@
 -- SPDX-License-Identifier: MIT
-use Rattle.std.proofs.Common.{◌≡◌, ℕ, ◌-◌, ◌%◌, ◌≤◌, List, refl, arith, rules}
-use Rattle.sha2_common.specs.Sha2.{rounds}
-use Rattle.sha2_common.specs.Sizes.{sha256}
-use Rattle.sha256.specs.Inner.State.{words256}
+use Rattle.std.proofs.Common.{◌≡◌, refl, arith}
 use Rattle.sha256.proofs.last_rounds.Goals as goal
 
 pub loop-t-init : goal.loop-t-init

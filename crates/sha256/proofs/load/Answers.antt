@@ -1,5 +1,5 @@
 -- SPDX-License-Identifier: MIT
-use Rattle.std.proofs.Common.{◌≡◌, ◌-◌, ◌≤◌, length, take, refl, arith, length-set, rules}
+use Rattle.std.proofs.Common.{◌≡◌, refl, arith, length-set, rules}
 use Rattle.sha2_common.specs.Sha2.{words}
 use Rattle.sha2_common.specs.Sizes.{sha256}
 use Rattle.sha2_common.proofs.Steps.{words_step}

@@ -1,8 +1,7 @@
 -- SPDX-License-Identifier: MIT
-use Rattle.std.proofs.Common.{◌≡◌, ◌-◌, ◌≤◌, length, take, refl, arith, length-set, rules}
+use Rattle.std.proofs.Common.{◌≡◌, ◌-◌, ◌≤◌, length, take}
 use Rattle.sha2_common.specs.Sha2.{words}
 use Rattle.sha2_common.specs.Sizes.{sha256}
-use Rattle.sha2_common.proofs.Steps.{words_step}
 use Rattle.sha256.proofs.load.Given as goal
 
 abbrev pub invariant-loop-i : goal.invariant-loop-i

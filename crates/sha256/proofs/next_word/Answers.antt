@@ -1,5 +1,4 @@
 -- SPDX-License-Identifier: MIT
-use Rattle.std.proofs.Common.{rules}
 use Rattle.sha256.proofs.next_word.Goals as goal
 
 pub returns : goal.returns

@@ -1,5 +1,5 @@
 -- SPDX-License-Identifier: MIT
-use Rattle.std.proofs.Common.{◌++◌, sym, refl, ap, ◌∙◌, arith, length-append, rules}
+use Rattle.std.proofs.Common.{◌++◌, sym, refl, ap, ◌∙◌, arith, length-append}
 use Rattle.sha2_common.specs.Sizes.{sha256}
 use Rattle.sha2_common.specs.Running.{room_of}
 use Rattle.sha2_common.proofs.Laws.{left-short}

@@ -2,7 +2,6 @@
 use Rattle.sha2_common.specs.Sizes.{sha256}
 use Rattle.sha2_common.proofs.Steps.{round-done}
 use Rattle.sha256.specs.Inner.State.{words256}
-use Rattle.std.proofs.Common.{rules}
 use Rattle.sha256.proofs.round.Goals as goal
 
 pub returns : goal.returns

@@ -1,5 +1,5 @@
 -- SPDX-License-Identifier: MIT
-use Rattle.std.proofs.Common.{add-one, rules}
+use Rattle.std.proofs.Common.{add-one}
 use Rattle.sha2_common.specs.Sizes.{sha256}
 use Rattle.sha2_common.proofs.Steps.{rounds-step}
 use Rattle.sha256.proofs.step.Goals as goal

@@ -1,8 +1,6 @@
 -- SPDX-License-Identifier: MIT
-use Rattle.std.proofs.Common.{◌≡◌, ◌-◌, ◌≤◌, length, drop, sym, refl, ◌∙◌, arith, length-drop, length-take, rules}
-use Rattle.sha2_common.specs.Sha2.{run}
+use Rattle.std.proofs.Common.{sym, refl, ◌∙◌, arith, length-drop, length-take}
 use Rattle.sha2_common.specs.Sizes.{sha512, constants512}
-use Rattle.sha512.specs.Inner.State.{words512}
 use Rattle.sha2_common.proofs.Laws.{run-next, run_short}
 use Rattle.sha512.proofs.blocks.Goals as goal
 

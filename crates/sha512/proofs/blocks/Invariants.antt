@@ -1,9 +1,8 @@
 -- SPDX-License-Identifier: MIT
-use Rattle.std.proofs.Common.{◌≡◌, ◌-◌, ◌≤◌, length, drop, sym, refl, ◌∙◌, arith, length-drop, length-take, rules}
+use Rattle.std.proofs.Common.{◌≡◌, ◌-◌, ◌≤◌, length, drop}
 use Rattle.sha2_common.specs.Sha2.{run}
-use Rattle.sha2_common.specs.Sizes.{sha512, constants512}
+use Rattle.sha2_common.specs.Sizes.{sha512}
 use Rattle.sha512.specs.Inner.State.{words512}
-use Rattle.sha2_common.proofs.Laws.{run-next, run_short}
 use Rattle.sha512.proofs.blocks.Given as goal
 
 abbrev pub invariant-loop-i : goal.invariant-loop-i

@@ -1,9 +1,6 @@
 -- SPDX-License-Identifier: MIT
-use Rattle.std.proofs.Common.{◌≡◌, ℕ, ◌-◌, ◌%◌, ◌≤◌, List, length, take, refl, arith, rules}
-use Rattle.sha2_common.specs.Sha2.{words}
+use Rattle.std.proofs.Common.{◌≡◌, refl, arith, rules}
 use Rattle.sha2_common.specs.Sizes.{sha512}
-use Rattle.sha2_common.specs.Inner.Rounds.{Halfway}
-use Rattle.sha512.specs.Inner.State.{words512}
 use Rattle.sha2_common.proofs.Steps.{halfway-holds}
 use Rattle.sha512.proofs.first_rounds.Goals as goal
 

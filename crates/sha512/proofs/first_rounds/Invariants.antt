@@ -1,10 +1,9 @@
 -- SPDX-License-Identifier: MIT
-use Rattle.std.proofs.Common.{◌≡◌, ℕ, ◌-◌, ◌%◌, ◌≤◌, List, length, take, refl, arith, rules}
+use Rattle.std.proofs.Common.{◌≡◌, ℕ, ◌-◌, ◌%◌, ◌≤◌, List, length, take}
 use Rattle.sha2_common.specs.Sha2.{words}
 use Rattle.sha2_common.specs.Sizes.{sha512}
 use Rattle.sha2_common.specs.Inner.Rounds.{Halfway}
 use Rattle.sha512.specs.Inner.State.{words512}
-use Rattle.sha2_common.proofs.Steps.{halfway-holds}
 use Rattle.sha512.proofs.first_rounds.Given as goal
 
 abbrev pub invariant-loop-t : goal.invariant-loop-t

@@ -1,5 +1,5 @@
 -- SPDX-License-Identifier: MIT
-use Rattle.std.proofs.Common.{refl, arith, rules}
+use Rattle.std.proofs.Common.{refl, arith}
 use Rattle.sha2_common.specs.Sizes.{sha512}
 use Rattle.sha2_common.proofs.Steps.{halfway-at}
 use Rattle.sha512.proofs.four_grown.Goals as goal

@@ -1,5 +1,5 @@
 -- SPDX-License-Identifier: MIT
-use Rattle.std.proofs.Common.{◌≡◌, ◌-◌, ◌++◌, length, drop, replicate, refl, arith, rules}
+use Rattle.std.proofs.Common.{◌≡◌, ◌-◌, ◌++◌, length, drop, replicate, refl, arith}
 use Rattle.sha2_common.specs.Sizes.{sha512}
 use Rattle.sha2_common.proofs.Steps.{room-filled}
 use Rattle.sha512.proofs.room.Goals as goal

@@ -2,7 +2,6 @@
 use Rattle.sha2_common.specs.Sizes.{sha512}
 use Rattle.sha2_common.proofs.Steps.{round-done}
 use Rattle.sha512.specs.Inner.State.{words512}
-use Rattle.std.proofs.Common.{rules}
 use Rattle.sha512.proofs.round.Goals as goal
 
 pub returns : goal.returns

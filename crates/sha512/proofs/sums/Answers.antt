@@ -1,6 +1,5 @@
 -- SPDX-License-Identifier: MIT
 use Rattle.sha2_common.proofs.Steps.{eight}
-use Rattle.std.proofs.Common.{rules}
 use Rattle.sha512.proofs.sums.Goals as goal
 
 pub returns : goal.returns

@@ -1,10 +1,9 @@
 -- SPDX-License-Identifier: MIT
-use mathlib.Core.Path.{refl, sym, ◌∙◌, ap}
-use Prim.Native.Nat.{ℕ, ◌+◌, ◌*◌, ◌<◌, ◌≤◌}
+use mathlib.Core.Path.{refl, ◌∙◌, ap}
+use Prim.Native.Nat.{◌+◌, ◌*◌, ◌≤◌}
 use native.Mathlib.Omega.{arith}
 use lib.ListN.{length}
-use borrow.Author.Rules.{rules}
-use Rattle.key_record.specs.Layout.{record_size, encode, decode}
+use Rattle.key_record.specs.Layout.{record_size, encode}
 use Rattle.key_record.specs.Record.{KeyRecord, is_sending, counter_of, advanced}
 use Rattle.store.proofs.Places.{place_inside, place-row, place-changed}
 use Rattle.store.proofs.advance_at.Goals as goal

@@ -1,5 +1,4 @@
 -- SPDX-License-Identifier: MIT
-use borrow.Author.Rules.{rules}
 use Rattle.store.proofs.Places.{place_found, place-nowhere}
 use Rattle.store.proofs.find.Goals as goal
 

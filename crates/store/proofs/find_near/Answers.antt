@@ -1,5 +1,4 @@
 -- SPDX-License-Identifier: MIT
-use borrow.Author.Rules.{rules}
 use Rattle.store.proofs.Places.{place_found}
 use Rattle.store.proofs.find_near.Goals as goal
 

@@ -1,13 +1,10 @@
 -- SPDX-License-Identifier: MIT
-use mathlib.Core.Path.{◌≡◌, refl, sym, ◌∙◌, ap}
-use mathlib.Core.List.{List, ◌++◌}
-use Prim.Native.Nat.{ℕ, ◌+◌, ◌*◌, ◌-◌, ◌≤◌}
+use mathlib.Core.Path.{refl, ◌∙◌}
+use Prim.Native.Nat.{◌+◌, ◌*◌, ◌≤◌}
 use native.Mathlib.Omega.{arith}
-use lib.ListN.{length, take, drop, length-take, length-drop}
-use borrow.Author.Rules.{rules}
-use Rattle.key_record.specs.Layout.{record_size, encode}
+use lib.ListN.{length, length-take, length-drop}
+use Rattle.key_record.specs.Layout.{record_size}
 use Rattle.key_record.specs.Inner.Rows.{fresh}
-use Rattle.store.specs.Store.{encode_all, records}
 use Rattle.store.proofs.Moves.{opened-length, cleared-length, gap_is, gap-filled}
 use Rattle.store.proofs.Places.{place_inside, insert-within, insert-bytes, empty-length, fresh_holds}
 use Rattle.store.proofs.insert_at.Goals as goal

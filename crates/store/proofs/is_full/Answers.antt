@@ -2,10 +2,8 @@
 use mathlib.Core.Path.{◌∙◌, ap, sym}
 use mathlib.Core.Bool.{not}
 use native.Mathlib.Omega.{arith}
-use Prim.Native.Nat.{ℕ, ◌-◌, ◌/◌}
-use lib.ListN.{length, get_or}
-use borrow.Author.Rules.{rules}
-use Rattle.key_record.specs.Layout.{record_size}
+use Prim.Native.Nat.{ℕ, ◌-◌}
+use lib.ListN.{get_or}
 use Rattle.key_record.specs.Record.{empty, is_empty}
 use Rattle.store.specs.Store.{records}
 use Rattle.store.proofs.Order.{full-told}

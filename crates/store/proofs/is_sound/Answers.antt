@@ -1,5 +1,4 @@
 -- SPDX-License-Identifier: MIT
-use borrow.Author.Rules.{rules}
 use Rattle.store.proofs.Walk.{sound-length, sound-whole, sound-rows}
 use mathlib.Core.Bool.{not}
 use mathlib.Core.Path.{ap}

@@ -1,5 +1,4 @@
 -- SPDX-License-Identifier: MIT
-use borrow.Author.Rules.{rules}
 use Rattle.store.proofs.Walk.{length-short, length-long, length_whole}
 use Rattle.store.proofs.length_right.Goals as goal
 

@@ -3,7 +3,6 @@ use mathlib.Core.Path.{refl, ◌∙◌, ap}
 use Prim.Native.Nat.{◌+◌, ◌*◌, ◌≤◌}
 use native.Mathlib.Omega.{arith}
 use lib.ListN.{length}
-use borrow.Author.Rules.{rules}
 use Rattle.key_record.specs.Layout.{record_size, encode}
 use Rattle.window.specs.Window.{seen, too_old}
 use Rattle.key_record.specs.Record.{KeyRecord, is_receiving, window_of, noted}

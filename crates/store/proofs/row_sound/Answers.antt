@@ -1,7 +1,5 @@
 -- SPDX-License-Identifier: MIT
-use mathlib.Core.Path.{◌≡◌}
 use native.Mathlib.Omega.{arith}
-use borrow.Author.Rules.{rules}
 use Rattle.store.proofs.Walk.{row-fails, row_first, row-behind}
 use mathlib.Core.Bool.{not}
 use mathlib.Core.Path.{ap}

@@ -1,12 +1,8 @@
 -- SPDX-License-Identifier: MIT
-use mathlib.Core.Path.{◌≡◌, refl}
+use mathlib.Core.Path.{refl}
 use mathlib.Core.List.{[]}
-use Prim.Native.Nat.{◌+◌, ◌-◌, ◌/◌, ◌%◌, ◌<◌, ◌≤◌}
 use native.Mathlib.Omega.{arith}
-use lib.ListN.{length, take, drop, length-take, length-drop}
-use borrow.Author.Rules.{rules}
-use Rattle.key_record.specs.Layout.{record_size}
-use Rattle.store.specs.Inner.Places.{rows_sound}
+use lib.ListN.{length-take, length-drop}
 use Rattle.store.proofs.Walk.{behind, pass-stop, pass-go, pass-start, pass-end}
 use mathlib.Core.Bool.{not}
 use mathlib.Core.Path.{ap}
@@ -25,14 +21,13 @@ returns-then-not-row_sound c =
     pass-stop c.args.store.now c.loop-at.before c.loop-at.at _ c.requires c.loop-at-test.true c.loop-at.invariant.1 refl _ c.row_sound.ensures c.loop-at.invariant.4 (ap not c.if-not-row_sound.true)
 
 pub loop-at-preserved : goal.loop-at-preserved
-loop-at-preserved c =
-    (
-      omega arith,
-      omega arith,
-      omega arith,
-      (λ h. refl),
-      pass-go c.args.store.now c.loop-at.before c.loop-at.at _ c.requires c.loop-at-test.true c.loop-at.invariant.1 refl _ c.row_sound.ensures c.loop-at.invariant.4 (ap not c.if-not-row_sound.false),
-    )
+loop-at-preserved c = (
+  omega arith,
+  omega arith,
+  omega arith,
+  (λ h. refl),
+  pass-go c.args.store.now c.loop-at.before c.loop-at.at _ c.requires c.loop-at-test.true c.loop-at.invariant.1 refl _ c.row_sound.ensures c.loop-at.invariant.4 (ap not c.if-not-row_sound.false),
+)
 
 pub returns : goal.returns
 returns c = pass-end c.args.store.now c.loop-at.before c.loop-at.at (omega arith) c.loop-at.invariant.4

@@ -1,13 +1,10 @@
 -- SPDX-License-Identifier: MIT
-use mathlib.Core.Path.{◌≡◌, refl}
+use mathlib.Core.Path.{◌≡◌}
 use mathlib.Core.List.{[]}
 use Prim.Native.Nat.{◌+◌, ◌-◌, ◌/◌, ◌%◌, ◌<◌, ◌≤◌}
-use native.Mathlib.Omega.{arith}
-use lib.ListN.{length, take, drop, length-take, length-drop}
-use borrow.Author.Rules.{rules}
+use lib.ListN.{length, take, drop}
 use Rattle.key_record.specs.Layout.{record_size}
 use Rattle.store.specs.Inner.Places.{rows_sound}
-use Rattle.store.proofs.Walk.{behind, pass-stop, pass-go, pass-start, pass-end}
 use Rattle.store.proofs.rows_sound.Given as goal
 
 abbrev pub invariant-loop-at : goal.invariant-loop-at

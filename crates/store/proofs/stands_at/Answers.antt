@@ -1,6 +1,5 @@
 -- SPDX-License-Identifier: MIT
 use mathlib.Core.Path.{◌∙◌, ap}
-use borrow.Author.Rules.{rules}
 use Rattle.key_record.specs.Record.{holds}
 use Rattle.store.proofs.Places.{place-within, place-past}
 use Rattle.store.proofs.stands_at.Goals as goal

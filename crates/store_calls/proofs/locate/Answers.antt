@@ -1,5 +1,4 @@
 -- SPDX-License-Identifier: MIT
-use borrow.Author.Rules.{rules}
 use Rattle.answers.proofs.Basics.{told-true}
 use Rattle.store_calls.proofs.Finds.{find-unsound, find-missing, find-done}
 use mathlib.Core.Bool.{not}

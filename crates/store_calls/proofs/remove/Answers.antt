@@ -1,7 +1,6 @@
 -- SPDX-License-Identifier: MIT
 use mathlib.Core.Path.{◌∙◌, ap}
 use native.Mathlib.Omega.{arith}
-use borrow.Author.Rules.{rules}
 use Rattle.key_record.specs.Inner.Rows.{kind_of}
 use Rattle.store.proofs.Places.{tested-sound, found_within}
 use Rattle.store_calls.proofs.Removal.{remove-unsound, remove-missing, remove-empty, remove-retired, remove-receiving, sender-sends, remove-sending}
@@ -28,11 +27,10 @@ pub kind_of-kind-requires : goal.kind_of-kind-requires
 kind_of-kind-requires c = c.row_at.ensures.0.0
 
 pub retire_at-requires : goal.retire_at-requires
-retire_at-requires c =
-    (
-      found_within c.args.store.now _ _ _ (tested-sound c.args.store.now (λ j. omega (arith, c.slice_known-1.given j)) _ c.is_sound.ensures (ap not c.if-not-is_sound.false)) c.find_near.ensures c.in-At.is,
-      sender-sends c.args.store.now _ (tested-sound c.args.store.now (λ j. omega (arith, c.slice_known-1.given j)) _ c.is_sound.ensures (ap not c.if-not-is_sound.false)) (λ j. omega (arith, c.slice_known-1.given j)) _ c.find_near.ensures _ c.in-At.is _ (c.kind_of-kind.ensures ∙ ap kind_of c.row_at.ensures.1) c.in-Sender.is,
-    )
+retire_at-requires c = (
+  found_within c.args.store.now _ _ _ (tested-sound c.args.store.now (λ j. omega (arith, c.slice_known-1.given j)) _ c.is_sound.ensures (ap not c.if-not-is_sound.false)) c.find_near.ensures c.in-At.is,
+  sender-sends c.args.store.now _ (tested-sound c.args.store.now (λ j. omega (arith, c.slice_known-1.given j)) _ c.is_sound.ensures (ap not c.if-not-is_sound.false)) (λ j. omega (arith, c.slice_known-1.given j)) _ c.find_near.ensures _ c.in-At.is _ (c.kind_of-kind.ensures ∙ ap kind_of c.row_at.ensures.1) c.in-Sender.is,
+)
 
 pub close_at-requires : goal.close_at-requires
 close_at-requires c =

@@ -1,10 +1,9 @@
 -- SPDX-License-Identifier: MIT
-use mathlib.Core.Path.{refl, sym, ◌∙◌, ap}
-use Prim.Native.Nat.{ℕ, ◌+◌, ◌*◌, ◌<◌, ◌≤◌}
+use mathlib.Core.Path.{refl, ◌∙◌, ap}
+use Prim.Native.Nat.{◌+◌, ◌*◌, ◌≤◌}
 use native.Mathlib.Omega.{arith}
 use lib.ListN.{length}
-use borrow.Author.Rules.{rules}
-use Rattle.track_record.specs.Layout.{record_size, encode, decode}
+use Rattle.track_record.specs.Layout.{record_size, encode}
 use Rattle.track_record.specs.Record.{TrackRecord, is_empty, advanced}
 use Rattle.secure_objects.specs.Objects.{counter}
 use Rattle.tracks.proofs.Places.{place_inside, place-row, place-changed}

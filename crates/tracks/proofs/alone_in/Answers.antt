@@ -3,7 +3,6 @@ use Rattle.tracks.proofs.Walk.{alone-unheld, alone-nowhere, alone-found}
 use Rattle.track_record.specs.Record.{track_id}
 use Rattle.track_record.specs.Layout.{decode}
 use mathlib.Core.Path.{sym, ◌∙◌}
-use borrow.Author.Rules.{rules}
 use Rattle.tracks.proofs.alone_in.Goals as goal
 
 pub returns-then-is_empty : goal.returns-then-is_empty

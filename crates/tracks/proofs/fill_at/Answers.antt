@@ -1,10 +1,9 @@
 -- SPDX-License-Identifier: MIT
-use mathlib.Core.Path.{refl, sym, ◌∙◌, ap}
-use Prim.Native.Nat.{ℕ, ◌+◌, ◌*◌, ◌<◌, ◌≤◌}
+use mathlib.Core.Path.{refl, ◌∙◌, ap}
+use Prim.Native.Nat.{◌+◌, ◌*◌, ◌≤◌}
 use native.Mathlib.Omega.{arith}
 use lib.ListN.{length}
-use borrow.Author.Rules.{rules}
-use Rattle.track_record.specs.Layout.{record_size, encode, decode}
+use Rattle.track_record.specs.Layout.{record_size, encode}
 use Rattle.track_record.proofs.Records.{empty-is}
 use Rattle.tracks.proofs.Places.{place_inside, place-row, place-bytes, place-changed}
 use Rattle.tracks.proofs.fill_at.Goals as goal
@@ -25,13 +24,12 @@ slice_bounds-fill-end c =
     omega (arith, inside)
 
 pub fill-requires : goal.fill-requires
-fill-requires c =
-    (
-      place-bytes c.args.store.now c.args.i c.requires.0 _ refl (λ j. omega (arith, c.slice_known-1.given j)) ∙ ap encode (empty-is _ c.requires.1),
-      (place-row c.args.store.now c.args.i c.requires.0 _ refl).0.0,
-      c.requires.2,
-      c.requires.3,
-    )
+fill-requires c = (
+  place-bytes c.args.store.now c.args.i c.requires.0 _ refl (λ j. omega (arith, c.slice_known-1.given j)) ∙ ap encode (empty-is _ c.requires.1),
+  (place-row c.args.store.now c.args.i c.requires.0 _ refl).0.0,
+  c.requires.2,
+  c.requires.3,
+)
 
 pub returns : goal.returns
 returns c =

@@ -1,14 +1,9 @@
 -- SPDX-License-Identifier: MIT
-use mathlib.Core.Path.{◌≡◌, refl, ap}
-use Prim.Native.Nat.{◌-◌, ◌/◌, ◌%◌, ◌≤◌}
+use mathlib.Core.Path.{refl, ap}
 use native.Mathlib.Omega.{arith}
-use lib.ListN.{length, drop}
-use borrow.Author.Rules.{rules}
 use Rattle.tracks.proofs.Walk.{find-here, find-go, find-end, records-start}
-use Rattle.tracks.specs.Tracks.{decode_all, records}
+use Rattle.tracks.specs.Tracks.{records}
 use Rattle.tracks.specs.Table.{get}
-use Rattle.track_record.specs.Layout.{record_size}
-use Rattle.track_record.specs.Record.{track_id}
 use Rattle.tracks.proofs.find.Goals as goal
 
 pub loop-at-init : goal.loop-at-init

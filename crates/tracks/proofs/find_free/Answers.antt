@@ -1,12 +1,8 @@
 -- SPDX-License-Identifier: MIT
-use mathlib.Core.Path.{◌≡◌, refl}
-use Prim.Native.Nat.{◌-◌, ◌%◌, ◌≤◌}
+use mathlib.Core.Path.{refl}
 use native.Mathlib.Omega.{arith}
-use lib.ListN.{length}
-use borrow.Author.Rules.{rules}
 use Rattle.tracks.specs.Tracks.{records}
-use Rattle.tracks.proofs.Walk.{NoneFree, free-here, free-go, free-end}
-use Rattle.track_record.specs.Layout.{record_size}
+use Rattle.tracks.proofs.Walk.{free-here, free-go, free-end}
 use Rattle.tracks.proofs.find_free.Goals as goal
 
 pub loop-at-init : goal.loop-at-init

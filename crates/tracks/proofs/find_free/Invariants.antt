@@ -1,11 +1,8 @@
 -- SPDX-License-Identifier: MIT
-use mathlib.Core.Path.{◌≡◌, refl}
+use mathlib.Core.Path.{◌≡◌}
 use Prim.Native.Nat.{◌-◌, ◌%◌, ◌≤◌}
-use native.Mathlib.Omega.{arith}
 use lib.ListN.{length}
-use borrow.Author.Rules.{rules}
-use Rattle.tracks.specs.Tracks.{records}
-use Rattle.tracks.proofs.Walk.{NoneFree, free-here, free-go, free-end}
+use Rattle.tracks.proofs.Walk.{NoneFree}
 use Rattle.track_record.specs.Layout.{record_size}
 use Rattle.tracks.proofs.find_free.Given as goal
 

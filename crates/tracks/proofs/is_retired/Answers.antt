@@ -3,7 +3,6 @@ use Rattle.tracks.proofs.Removal.{retired-none, retired-told}
 use Rattle.track_record.specs.Record.{rests}
 use Rattle.track_record.specs.Layout.{decode}
 use mathlib.Core.Path.{sym, ◌∙◌, ap}
-use borrow.Author.Rules.{rules}
 use Rattle.tracks.proofs.is_retired.Goals as goal
 
 pub returns-in_default : goal.returns-in_default

@@ -1,5 +1,4 @@
 -- SPDX-License-Identifier: MIT
-use borrow.Author.Rules.{rules}
 use Rattle.tracks.specs.Tracks.{records}
 use Rattle.tracks.proofs.Walk.{sound-length, sound-whole, sound-rows, sound-tracks}
 use mathlib.Core.Bool.{not}

@@ -1,5 +1,4 @@
 -- SPDX-License-Identifier: MIT
-use borrow.Author.Rules.{rules}
 use Rattle.tracks.proofs.Removal.{make-refused, make-done}
 use mathlib.Core.Bool.{not}
 use mathlib.Core.Path.{ap}

@@ -1,14 +1,11 @@
 -- SPDX-License-Identifier: MIT
 use Rattle.tracks.proofs.Removal.{remove-unsound, remove-missing, held-there, remove-retired, remove-done}
 use Rattle.tracks.proofs.Places.{tested-sound, tested-whole, found_within}
-use Rattle.tracks.specs.Tracks.{sound}
 use Rattle.track_record.specs.Record.{track_id}
-use Rattle.track_record.specs.Layout.{decode}
 use Rattle.octets.specs.Octets.{Octets}
 use native.Mathlib.Omega.{arith}
 use mathlib.Core.Bool.{true}
-use mathlib.Core.Path.{◌≡◌, refl, sym, ◌∙◌, ap}
-use borrow.Author.Rules.{rules}
+use mathlib.Core.Path.{ap}
 use mathlib.Core.Bool.{not}
 use Rattle.tracks.proofs.remove.Goals as goal
 

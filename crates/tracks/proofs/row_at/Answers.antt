@@ -1,7 +1,6 @@
 -- SPDX-License-Identifier: MIT
 use mathlib.Core.Path.{refl}
 use native.Mathlib.Omega.{arith}
-use borrow.Author.Rules.{rules}
 use Rattle.tracks.proofs.Places.{place_inside, place-row}
 use Rattle.tracks.proofs.row_at.Goals as goal
 

@@ -1,12 +1,7 @@
 -- SPDX-License-Identifier: MIT
-use mathlib.Core.Path.{◌≡◌, refl}
-use Prim.Native.Nat.{◌-◌, ◌/◌, ◌%◌, ◌≤◌}
+use mathlib.Core.Path.{refl}
 use native.Mathlib.Omega.{arith}
-use lib.ListN.{length, drop}
-use borrow.Author.Rules.{rules}
 use Rattle.tracks.proofs.Walk.{obey-stop, obey-go, obey-start, obey-end}
-use Rattle.tracks.specs.Tracks.{all_obey}
-use Rattle.track_record.specs.Layout.{record_size}
 use mathlib.Core.Bool.{not}
 use mathlib.Core.Path.{ap}
 use Rattle.tracks.proofs.rows_obey.Goals as goal

@@ -1,10 +1,7 @@
 -- SPDX-License-Identifier: MIT
-use mathlib.Core.Path.{◌≡◌, refl}
+use mathlib.Core.Path.{◌≡◌}
 use Prim.Native.Nat.{◌-◌, ◌/◌, ◌%◌, ◌≤◌}
-use native.Mathlib.Omega.{arith}
 use lib.ListN.{length, drop}
-use borrow.Author.Rules.{rules}
-use Rattle.tracks.proofs.Walk.{obey-stop, obey-go, obey-start, obey-end}
 use Rattle.tracks.specs.Tracks.{all_obey}
 use Rattle.track_record.specs.Layout.{record_size}
 use Rattle.tracks.proofs.rows_obey.Given as goal

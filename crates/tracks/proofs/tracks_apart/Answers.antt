@@ -1,13 +1,9 @@
 -- SPDX-License-Identifier: MIT
-use mathlib.Core.Path.{◌≡◌, refl, ap}
-use Prim.Native.Nat.{◌-◌, ◌/◌, ◌%◌, ◌≤◌}
+use mathlib.Core.Path.{refl, ap}
 use native.Mathlib.Omega.{arith}
-use lib.ListN.{length, drop}
-use borrow.Author.Rules.{rules}
 use Rattle.tracks.proofs.Walk.{apart-stop, apart-go, apart-end, records-start}
-use Rattle.tracks.specs.Tracks.{decode_all, records}
+use Rattle.tracks.specs.Tracks.{records}
 use Rattle.tracks.specs.Table.{apart}
-use Rattle.track_record.specs.Layout.{record_size}
 use mathlib.Core.Bool.{not}
 use Rattle.tracks.proofs.tracks_apart.Goals as goal
 

@@ -1,11 +1,8 @@
 -- SPDX-License-Identifier: MIT
-use mathlib.Core.Path.{◌≡◌, refl, ap}
+use mathlib.Core.Path.{◌≡◌}
 use Prim.Native.Nat.{◌-◌, ◌/◌, ◌%◌, ◌≤◌}
-use native.Mathlib.Omega.{arith}
 use lib.ListN.{length, drop}
-use borrow.Author.Rules.{rules}
-use Rattle.tracks.proofs.Walk.{apart-stop, apart-go, apart-end, records-start}
-use Rattle.tracks.specs.Tracks.{decode_all, records}
+use Rattle.tracks.specs.Tracks.{decode_all}
 use Rattle.tracks.specs.Table.{apart}
 use Rattle.track_record.specs.Layout.{record_size}
 use Rattle.tracks.proofs.tracks_apart.Given as goal

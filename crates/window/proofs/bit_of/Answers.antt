@@ -1,6 +1,5 @@
 -- SPDX-License-Identifier: MIT
 use mathlib.Core.Path.{refl}
-use borrow.Author.Rules.{rules}
 use Rattle.window.specs.Window.{bit}
 use Rattle.window.proofs.bit_of.Goals as goal
 

@@ -1,5 +1,4 @@
 -- SPDX-License-Identifier: MIT
-use borrow.Author.Rules.{rules}
 use Rattle.window.proofs.Steps.{seen-newer, seen-far, seen-bit}
 use Rattle.window.proofs.is_seen.Goals as goal
 

@@ -1,6 +1,5 @@
 -- SPDX-License-Identifier: MIT
 use native.Mathlib.Omega.{arith}
-use borrow.Author.Rules.{rules}
 use Rattle.window.proofs.Steps.{none_yet, even-mask, all-bits, few_bits}
 use Rattle.window.proofs.is_sound.Goals as goal
 

@@ -1,6 +1,5 @@
 -- SPDX-License-Identifier: MIT
 use native.Mathlib.Omega.{arith}
-use borrow.Author.Rules.{rules}
 use Rattle.window.proofs.Laws.{near}
 use Rattle.window.proofs.Steps.{newer-adds, opened-newer, older-adds, opened-older}
 use Rattle.window.proofs.open.Goals as goal

@@ -1,6 +1,5 @@
 -- SPDX-License-Identifier: MIT
 use mathlib.Core.Path.{refl, sym}
-use borrow.Author.Rules.{rules}
 use Rattle.window.proofs.Laws.{up-gone}
 use Rattle.window.proofs.shifted.Goals as goal
 

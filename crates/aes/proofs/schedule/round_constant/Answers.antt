@@ -1,7 +1,6 @@
 -- SPDX-License-Identifier: MIT
 -- `aes::schedule::round_constant` meets its contract.
 -- Assumes nothing.
-use borrow.Author.Rules.{rules}
 use native.Mathlib.Omega.{arith}
 use Prim.Native.Nat.{◌-◌}
 use Rattle.aes.specs.Aes.{word, rcon}

@@ -1,15 +1,10 @@
 -- SPDX-License-Identifier: MIT
 -- `aes::schedule::take_key` meets its contract.
 -- Assumes nothing.
-use borrow.Author.Rules.{rules}
-use mathlib.Core.Path.{◌≡◌, refl, ap, ◌∙◌}
-use Prim.Native.Nat.{◌*◌, ◌-◌, ◌≤◌}
-use native.Mathlib.Omega.{arith}
-use lib.ListN.{length, take, length-set}
-use Rattle.octets.specs.Octets.{number}
-use Rattle.octets.proofs.Laws.{part-rest}
-use Rattle.aes.specs.Aes.{Nk, expansion}
-use Rattle.aes.proofs.Expansion.{key_step}
+use mathlib.Core.Path.{◌≡◌}
+use Prim.Native.Nat.{◌-◌, ◌≤◌}
+use lib.ListN.{length, take}
+use Rattle.aes.specs.Aes.{expansion}
 use Rattle.aes.proofs.schedule.take_key.Given as goal
 
 abbrev pub invariant-loop-i : goal.invariant-loop-i

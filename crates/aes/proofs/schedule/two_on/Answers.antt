@@ -1,7 +1,6 @@
 -- SPDX-License-Identifier: MIT
 -- `aes::schedule::two_on` meets its contract.
 -- Assumes nothing.
-use borrow.Author.Rules.{rules}
 use mathlib.Core.Path.{refl}
 use native.Mathlib.Omega.{arith}
 use Rattle.aes.proofs.Expansion.{next-turn}

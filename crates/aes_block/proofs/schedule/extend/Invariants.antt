@@ -1,14 +1,10 @@
 -- SPDX-License-Identifier: MIT
 -- `aes::schedule::extend` meets its contract.
 -- Assumes nothing.
-use borrow.Author.Rules.{rules}
-use mathlib.Core.Path.{◌≡◌, refl}
+use mathlib.Core.Path.{◌≡◌}
 use Prim.Native.Nat.{◌+◌, ◌*◌, ◌-◌, ◌%◌, ◌≤◌, ◌<◌}
-use native.Mathlib.Omega.{arith}
-use lib.Bits.{bit_xor}
-use lib.ListN.{length, get_or, set, take, length-set}
-use Rattle.aes.specs.Aes.{Nk, Nr, expansion, key_expansion}
-use Rattle.aes.proofs.Expansion.{round_number, pair_step, pair-last}
+use lib.ListN.{length, get_or, take}
+use Rattle.aes.specs.Aes.{expansion}
 use Rattle.aes_block.proofs.schedule.extend.Given as goal
 
 abbrev pub invariant-loop-i : goal.invariant-loop-i

@@ -1,7 +1,6 @@
 -- SPDX-License-Identifier: MIT
 -- `aes::schedule::sub_word` meets its contract.
 -- Assumes nothing.
-use borrow.Author.Rules.{rules}
 use native.Mathlib.Nat.{div-one}
 use Rattle.aes.specs.Aes.{sub_word}
 use Rattle.aes_block.proofs.schedule.sub_word.Goals as goal

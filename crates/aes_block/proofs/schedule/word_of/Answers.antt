@@ -1,7 +1,6 @@
 -- SPDX-License-Identifier: MIT
 -- `aes::schedule::word_of` meets its contract.
 -- Assumes nothing.
-use borrow.Author.Rules.{rules}
 use native.Mathlib.Omega.{arith}
 use Rattle.aes.specs.Aes.{word}
 use Rattle.aes_block.proofs.schedule.word_of.Goals as goal

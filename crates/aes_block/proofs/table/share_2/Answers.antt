@@ -1,8 +1,6 @@
 -- SPDX-License-Identifier: MIT
 -- `aes::table::share_2` meets its contract.
 -- Assumes nothing.
-use borrow.Author.Rules.{rules}
-use native.Mathlib.Nat.{div-one}
 use Rattle.aes.proofs.Words.{s_box-lt}
 use Rattle.aes_block.proofs.Rounds.{look-2}
 use Rattle.aes_block.proofs.table.share_2.Goals as goal

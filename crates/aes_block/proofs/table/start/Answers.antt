@@ -1,7 +1,6 @@
 -- SPDX-License-Identifier: MIT
 -- `aes::table::start` meets its contract.
 -- Assumes nothing.
-use borrow.Author.Rules.{rules}
 use Rattle.aes_block.proofs.Rounds.{start-table}
 use Rattle.aes_block.proofs.table.start.Goals as goal
 

@@ -4,7 +4,6 @@
 use Rattle.aes_tables.specs.Field.{s_box}
 use Rattle.aes.proofs.Words.{s_box-lt}
 use Rattle.aes_block.proofs.Rounds.{second-byte}
-use borrow.Author.Rules.{rules}
 use Rattle.aes_block.proofs.table.sub.Goals as goal
 
 pub returns : goal.returns

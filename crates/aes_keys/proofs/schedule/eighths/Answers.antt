@@ -2,7 +2,6 @@
 use native.Mathlib.Omega.{arith}
 use lib.Bits.{and_le_r}
 use Rattle.aes_keys.proofs.Words.{eighth-bits}
-use borrow.Author.Rules.{rules}
 use Rattle.aes_keys.proofs.schedule.eighths.Goals as goal
 
 pub overflow_cast-result : goal.overflow_cast-result

@@ -1,13 +1,12 @@
 -- SPDX-License-Identifier: MIT
 -- `aes_keys::schedule::extend` meets its contract.
 -- Assumes nothing.
-use borrow.Author.Rules.{rules}
 use mathlib.Core.Path.{◌≡◌, refl}
-use Prim.Native.Nat.{◌+◌, ◌*◌, ◌-◌, ◌%◌, ◌≤◌, ◌<◌}
+use Prim.Native.Nat.{◌+◌, ◌*◌, ◌-◌, ◌<◌}
 use native.Mathlib.Omega.{arith}
 use lib.Bits.{bit_xor}
-use lib.ListN.{length, get_or, set, take, length-set}
-use Rattle.aes.specs.Aes.{Nk, Nr, expansion, key_expansion}
+use lib.ListN.{length, get_or, set, length-set}
+use Rattle.aes.specs.Aes.{Nk, Nr, key_expansion}
 use Rattle.aes.proofs.Expansion.{round_number, pair_step, pair-last}
 use Rattle.aes_keys.proofs.schedule.extend.Goals as goal
 

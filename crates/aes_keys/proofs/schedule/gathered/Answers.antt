@@ -1,6 +1,5 @@
 -- SPDX-License-Identifier: MIT
 use Rattle.aes_keys.proofs.Words.{bytes-gathered}
-use borrow.Author.Rules.{rules}
 use Rattle.aes_keys.proofs.schedule.gathered.Goals as goal
 
 pub returns : goal.returns

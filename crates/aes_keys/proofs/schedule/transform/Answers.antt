@@ -1,7 +1,6 @@
 -- SPDX-License-Identifier: MIT
 -- `aes_keys::schedule::transform` meets its contract.
 -- Assumes nothing.
-use borrow.Author.Rules.{rules}
 use borrow.Author.Tests.{eq-eqb, ne_eqb, lt-ltb, le-ltb}
 use lib.Arith.{digits_div, digits_mod}
 use Rattle.aes.specs.Aes.{transformed}

@@ -1,13 +1,11 @@
 -- SPDX-License-Identifier: MIT
-use mathlib.Core.Path.{◌≡◌, refl, sym, ◌∙◌, ap}
-use mathlib.Core.List.{◌++◌}
-use Prim.Native.Nat.{◌+◌, ◌*◌, ◌-◌, ◌%◌, ◌≤◌, min}
+use mathlib.Core.Path.{refl, ◌∙◌, ap}
+use Prim.Native.Nat.{◌+◌, ◌-◌, ◌%◌}
 use native.Mathlib.Omega.{arith}
-use lib.ListN.{length, take, drop}
 use Rattle.octets.specs.Octets.{xors}
 use Rattle.aes_keys.specs.Inner.Keys.{key_of}
 use Rattle.gcm.specs.Counter.{key_stream}
-use Rattle.gcm_batch.proofs.Batches.{part_length, batch-rest, apply-step, apply-done}
+use Rattle.gcm_batch.proofs.Batches.{batch-rest, apply-step, apply-done}
 use borrow.Author.Rules.{rules}
 use Rattle.gcm_batch.proofs.counter.apply.Goals as goal
 

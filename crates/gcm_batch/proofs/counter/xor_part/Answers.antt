@@ -1,6 +1,5 @@
 -- SPDX-License-Identifier: MIT
 use Rattle.gcm_batch.proofs.Batches.{xored}
-use borrow.Author.Rules.{rules}
 use Rattle.gcm_batch.proofs.counter.xor_part.Goals as goal
 
 pub returns : goal.returns

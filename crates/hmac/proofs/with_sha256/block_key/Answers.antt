@@ -2,7 +2,6 @@
 use Rattle.sha2_common.specs.Sizes.{sha256}
 use native.Mathlib.Omega.{arith}
 use Rattle.hmac.proofs.Steps.{extended_fits, extended-long}
-use borrow.Author.Rules.{rules}
 use Rattle.hmac.proofs.with_sha256.block_key.Goals as goal
 
 pub returns-then-key-le64 : goal.returns-then-key-le64

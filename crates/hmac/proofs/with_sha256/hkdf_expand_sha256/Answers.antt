@@ -5,8 +5,7 @@ use native.Mathlib.Omega.{arith}
 use lib.ListN.{length, length-take, length-drop}
 use lib.Seq.{length-take-le}
 use Rattle.sha2_common.specs.Sizes.{sha256}
-use Rattle.hmac.proofs.Steps.{Held, held_none, held_next, held-done}
-use borrow.Author.Rules.{rules}
+use Rattle.hmac.proofs.Steps.{held_none, held_next, held-done}
 use Rattle.hmac.proofs.with_sha256.hkdf_expand_sha256.Goals as goal
 
 pub loop-at-init : goal.loop-at-init

@@ -1,12 +1,8 @@
 -- SPDX-License-Identifier: MIT
-use mathlib.Core.Path.{◌≡◌, refl, sym}
-use Prim.Native.Nat.{◌+◌, ◌-◌}
-use native.Mathlib.Omega.{arith}
-use lib.ListN.{length, length-take, length-drop}
-use lib.Seq.{length-take-le}
+use Prim.Native.Nat.{◌-◌}
+use lib.ListN.{length}
 use Rattle.sha2_common.specs.Sizes.{sha256}
-use Rattle.hmac.proofs.Steps.{Held, held_none, held_next, held-done}
-use borrow.Author.Rules.{rules}
+use Rattle.hmac.proofs.Steps.{Held}
 use Rattle.hmac.proofs.with_sha256.hkdf_expand_sha256.Given as goal
 
 abbrev pub invariant-loop-at : goal.invariant-loop-at

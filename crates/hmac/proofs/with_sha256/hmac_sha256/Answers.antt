@@ -1,7 +1,6 @@
 -- SPDX-License-Identifier: MIT
 use Rattle.sha2_common.specs.Sizes.{sha256}
 use Rattle.hmac.proofs.Steps.{hmac-whole}
-use borrow.Author.Rules.{rules}
 use Rattle.hmac.proofs.with_sha256.hmac_sha256.Goals as goal
 
 pub returns : goal.returns

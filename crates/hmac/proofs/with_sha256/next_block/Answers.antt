@@ -1,6 +1,5 @@
 -- SPDX-License-Identifier: MIT
 use mathlib.Core.List.{[], ◌∷◌, append_assoc}
-use borrow.Author.Rules.{rules}
 use Rattle.hmac.proofs.with_sha256.next_block.Goals as goal
 
 pub returns : goal.returns

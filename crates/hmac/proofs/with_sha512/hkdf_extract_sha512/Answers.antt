@@ -2,7 +2,6 @@
 use Rattle.sha2_common.specs.Sizes.{sha512}
 use mathlib.Core.Path.{◌∙◌}
 use Rattle.hmac.proofs.Laws.{extract-of}
-use borrow.Author.Rules.{rules}
 use Rattle.hmac.proofs.with_sha512.hkdf_extract_sha512.Goals as goal
 
 pub returns : goal.returns

@@ -1,7 +1,6 @@
 -- SPDX-License-Identifier: MIT
 use Rattle.sha2_common.specs.Sizes.{sha512}
 use Rattle.hmac.proofs.Steps.{hmac-whole}
-use borrow.Author.Rules.{rules}
 use Rattle.hmac.proofs.with_sha512.hmac_sha512.Goals as goal
 
 pub returns : goal.returns

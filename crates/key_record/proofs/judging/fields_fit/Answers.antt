@@ -1,5 +1,4 @@
 -- SPDX-License-Identifier: MIT
-use borrow.Author.Rules.{rules}
 use Rattle.answers.proofs.Basics.{told-false, told-true}
 use Rattle.key_record.proofs.Judge.{fields-suite, fields-version, fields-counter, fields-window}
 use mathlib.Core.Bool.{not}

@@ -1,5 +1,4 @@
 -- SPDX-License-Identifier: MIT
-use borrow.Author.Rules.{rules}
 use Rattle.key_record.proofs.Judge.{opened-other, opened-last}
 use Rattle.key_record.proofs.judging.has_opened.Goals as goal
 

@@ -1,6 +1,5 @@
 -- SPDX-License-Identifier: MIT
 use mathlib.Core.Path.{sym, ◌∙◌}
-use borrow.Author.Rules.{rules}
 use Rattle.key_record.proofs.Suites.{suite-named, suite-unnamed}
 use Rattle.key_record.proofs.judging.is_suite.Goals as goal
 

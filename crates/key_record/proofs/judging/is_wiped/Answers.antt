@@ -2,7 +2,6 @@
 use mathlib.Core.Path.{◌≡◌}
 use mathlib.Core.Bool.{Bool}
 use Prim.Native.Nat.{◌-◌}
-use borrow.Author.Rules.{rules}
 use Rattle.answers.proofs.Basics.{told-false, told-true}
 use Rattle.key_record.specs.Inner.Judging.{zero_in}
 use Rattle.key_record.specs.Layout.{salt_at, key_at, key_room, highest_at}

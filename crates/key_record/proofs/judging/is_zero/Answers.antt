@@ -1,9 +1,6 @@
 -- SPDX-License-Identifier: MIT
-use mathlib.Core.Path.{◌≡◌, refl}
-use Prim.Native.Nat.{◌-◌, ◌≤◌}
+use mathlib.Core.Path.{refl}
 use native.Mathlib.Omega.{arith}
-use lib.ListN.{length, take, replicate}
-use borrow.Author.Rules.{rules}
 use Rattle.key_record.proofs.Zeros.{any_next, any-before, any-done}
 use Rattle.key_record.proofs.judging.is_zero.Goals as goal
 

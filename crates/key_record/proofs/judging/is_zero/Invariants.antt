@@ -1,10 +1,7 @@
 -- SPDX-License-Identifier: MIT
-use mathlib.Core.Path.{◌≡◌, refl}
+use mathlib.Core.Path.{◌≡◌}
 use Prim.Native.Nat.{◌-◌, ◌≤◌}
-use native.Mathlib.Omega.{arith}
 use lib.ListN.{length, take, replicate}
-use borrow.Author.Rules.{rules}
-use Rattle.key_record.proofs.Zeros.{any_next, any-before, any-done}
 use Rattle.key_record.proofs.judging.is_zero.Given as goal
 
 abbrev pub invariant-loop-i : goal.invariant-loop-i

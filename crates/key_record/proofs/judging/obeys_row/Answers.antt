@@ -3,7 +3,6 @@ use mathlib.Core.Path.{◌≡◌}
 use mathlib.Core.Bool.{true}
 use native.Mathlib.Omega.{arith}
 use lib.ListN.{get_or}
-use borrow.Author.Rules.{rules}
 use Rattle.answers.proofs.Basics.{told-false, told-true}
 use Rattle.key_record.specs.Inner.Judging.{holding_mark, fields_fit}
 use Rattle.key_record.specs.Layout.{mark_at}

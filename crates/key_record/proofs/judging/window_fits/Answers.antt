@@ -1,6 +1,5 @@
 -- SPDX-License-Identifier: MIT
 use mathlib.Core.Path.{sym, ◌∙◌}
-use borrow.Author.Rules.{rules}
 use Rattle.key_record.proofs.Judge.{window-opened, window-highest, window-mask}
 use Rattle.key_record.proofs.judging.window_fits.Goals as goal
 

@@ -1,5 +1,4 @@
 -- SPDX-License-Identifier: MIT
-use borrow.Author.Rules.{rules}
 use Rattle.key_record.proofs.Judge.{window-told}
 use Rattle.key_record.proofs.judging.window_in.Goals as goal
 

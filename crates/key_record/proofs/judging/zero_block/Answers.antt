@@ -1,10 +1,6 @@
 -- SPDX-License-Identifier: MIT
-use mathlib.Core.Path.{◌≡◌, refl}
-use Prim.Native.Nat.{◌-◌, ◌≤◌}
+use mathlib.Core.Path.{refl}
 use native.Mathlib.Omega.{arith}
-use lib.ListN.{take, drop, replicate}
-use borrow.Author.Rules.{rules}
-use Rattle.key_record.specs.Inner.Judging.{block}
 use Rattle.key_record.proofs.Zeros.{block-next, block-before, block-done}
 use Rattle.key_record.proofs.judging.zero_block.Goals as goal
 

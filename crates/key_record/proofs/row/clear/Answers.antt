@@ -1,5 +1,4 @@
 -- SPDX-License-Identifier: MIT
-use borrow.Author.Rules.{rules}
 use Rattle.key_record.proofs.Fields.{cleared}
 use Rattle.key_record.proofs.row.clear.Goals as goal
 

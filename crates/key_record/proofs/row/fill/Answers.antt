@@ -1,7 +1,6 @@
 -- SPDX-License-Identifier: MIT
 use mathlib.Core.Path.{refl, ap}
 use Prim.Native.Nat.{ℕ, ◌+◌}
-use native.Mathlib.Omega.{arith}
 use borrow.Author.Rules.{rules}
 use Rattle.suites.proofs.Laws.{number-byte, Nk-most}
 use Rattle.key_record.specs.Layout.{salt_at, key_at}

@@ -1,5 +1,4 @@
 -- SPDX-License-Identifier: MIT
-use borrow.Author.Rules.{rules}
 use Rattle.key_record.proofs.Fields.{holds-unheld, holds-held}
 use mathlib.Core.Bool.{not}
 use mathlib.Core.Path.{ap}

@@ -1,5 +1,4 @@
 -- SPDX-License-Identifier: MIT
-use borrow.Author.Rules.{rules}
 use Rattle.key_record.proofs.Fields.{empty-told}
 use Rattle.key_record.proofs.row.is_empty.Goals as goal
 

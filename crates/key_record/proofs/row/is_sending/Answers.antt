@@ -1,5 +1,4 @@
 -- SPDX-License-Identifier: MIT
-use borrow.Author.Rules.{rules}
 use Rattle.key_record.proofs.Fields.{sends-told}
 use Rattle.key_record.proofs.row.is_sending.Goals as goal
 

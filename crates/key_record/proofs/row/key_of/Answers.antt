@@ -1,7 +1,6 @@
 -- SPDX-License-Identifier: MIT
 use mathlib.Core.Path.{refl}
 use native.Mathlib.Omega.{arith}
-use borrow.Author.Rules.{rules}
 use Rattle.suites.proofs.Laws.{Nk-most}
 use Rattle.key_record.proofs.Fields.{key-inside, key-told}
 use Rattle.key_record.proofs.row.key_of.Goals as goal

@@ -1,5 +1,4 @@
 -- SPDX-License-Identifier: MIT
-use borrow.Author.Rules.{rules}
 use Rattle.key_record.proofs.Fields.{kid-told}
 use Rattle.key_record.proofs.row.kid_of.Goals as goal
 

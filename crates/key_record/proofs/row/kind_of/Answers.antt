@@ -1,5 +1,4 @@
 -- SPDX-License-Identifier: MIT
-use borrow.Author.Rules.{rules}
 use Rattle.key_record.proofs.Fields.{kind-sending, kind-receiving, kind-retired, kind-empty}
 use Rattle.key_record.proofs.row.kind_of.Goals as goal
 

@@ -1,6 +1,5 @@
 -- SPDX-License-Identifier: MIT
 use native.Mathlib.Omega.{arith}
-use borrow.Author.Rules.{rules}
 use Rattle.key_record.proofs.Fields.{counter-told}
 use Rattle.key_record.proofs.row.next_of.Goals as goal
 

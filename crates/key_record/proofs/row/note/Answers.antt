@@ -1,7 +1,6 @@
 -- SPDX-License-Identifier: MIT
 use mathlib.Core.Path.{◌∙◌, ap}
 use native.Mathlib.Omega.{arith}
-use borrow.Author.Rules.{rules}
 use Rattle.window.specs.Window.{fits, seen, too_old, moved}
 use Rattle.window.specs.declared.Window.{Window}
 use Rattle.key_record.specs.Layout.{decode}

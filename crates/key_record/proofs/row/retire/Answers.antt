@@ -1,6 +1,5 @@
 -- SPDX-License-Identifier: MIT
 use native.Mathlib.Omega.{arith}
-use borrow.Author.Rules.{rules}
 use Rattle.key_record.proofs.Fields.{retired-row, retired-told}
 use Rattle.key_record.proofs.row.retire.Goals as goal
 

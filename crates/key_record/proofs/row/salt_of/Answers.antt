@@ -1,7 +1,6 @@
 -- SPDX-License-Identifier: MIT
 use mathlib.Core.Path.{refl}
 use native.Mathlib.Omega.{arith}
-use borrow.Author.Rules.{rules}
 use Rattle.key_record.proofs.Fields.{salt-told}
 use Rattle.key_record.proofs.row.salt_of.Goals as goal
 

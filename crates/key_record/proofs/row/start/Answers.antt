@@ -2,7 +2,6 @@
 use mathlib.Core.Path.{◌≡◌, ap}
 use native.Mathlib.Omega.{arith}
 use lib.ListN.{length, length-set}
-use borrow.Author.Rules.{rules}
 use Rattle.key_record.proofs.Rows.{row-start}
 use Rattle.key_record.specs.Layout.{record_size}
 use Rattle.key_record.proofs.row.start.Goals as goal

@@ -1,6 +1,5 @@
 -- SPDX-License-Identifier: MIT
 use native.Mathlib.Omega.{arith}
-use borrow.Author.Rules.{rules}
 use Rattle.key_record.specs.Layout.{suite_at}
 use Rattle.key_record.proofs.Fields.{suite-never, suite-told}
 use Rattle.key_record.proofs.row.suite_of.Goals as goal

@@ -1,5 +1,4 @@
 -- SPDX-License-Identifier: MIT
-use borrow.Author.Rules.{rules}
 use Rattle.key_record.proofs.Fields.{window-read}
 use Rattle.key_record.proofs.row.window_of.Goals as goal
 

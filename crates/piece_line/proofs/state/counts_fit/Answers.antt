@@ -3,7 +3,6 @@ use lib.Dec.{leb}
 use mathlib.Core.Path.{ap₂}
 use Rattle.piece_line.proofs.Steps.{counts-few, counts-many, counts-long, counts-last}
 use native.Mathlib.Omega.{arith}
-use borrow.Author.Rules.{rules}
 use Rattle.piece_line.proofs.state.counts_fit.Goals as goal
 
 pub returns-then-aad-lt1 : goal.returns-then-aad-lt1

@@ -1,7 +1,6 @@
 -- SPDX-License-Identifier: MIT
 use Rattle.suites.proofs.Laws.{Nk-most}
 use native.Mathlib.Omega.{arith}
-use borrow.Author.Rules.{rules}
 use Rattle.piece_line.proofs.state.key_end.Goals as goal
 
 pub overflow_add-result : goal.overflow_add-result

@@ -1,7 +1,6 @@
 -- SPDX-License-Identifier: MIT
 use Rattle.piece_line.proofs.Steps.{line-short, line-kind, line-counts, line-found}
 use native.Mathlib.Omega.{arith}
-use borrow.Author.Rules.{rules}
 use mathlib.Core.Bool.{not}
 use mathlib.Core.Path.{ap}
 use Rattle.piece_line.proofs.state.line_of.Goals as goal

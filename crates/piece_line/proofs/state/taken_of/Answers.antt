@@ -1,6 +1,5 @@
 -- SPDX-License-Identifier: MIT
 use Rattle.piece_line.proofs.Steps.{field-read}
-use borrow.Author.Rules.{rules}
 use Rattle.piece_line.proofs.state.taken_of.Goals as goal
 
 pub returns : goal.returns

@@ -2,7 +2,6 @@
 use Rattle.pieces.proofs.Begins.{begun-gcm}
 use Rattle.piece_line.proofs.Steps.{ready}
 use mathlib.Core.Path.{refl}
-use borrow.Author.Rules.{rules}
 use Rattle.pieces.proofs.beginning.begin_gcm.Goals as goal
 
 pub hash_key-t-requires : goal.hash_key-t-requires

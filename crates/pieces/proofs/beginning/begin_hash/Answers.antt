@@ -8,7 +8,6 @@ use mathlib.Core.Path.{ap₂}
 use Rattle.suites.proofs.Laws.{ctr-sizes}
 use native.Mathlib.Omega.{arith}
 use mathlib.Core.Path.{sym, ◌∙◌, ap}
-use borrow.Author.Rules.{rules}
 use Rattle.pieces.proofs.beginning.begin_hash.Goals as goal
 
 pub begin_hmac-requires : goal.begin_hmac-requires

@@ -7,7 +7,6 @@ use Prim.Native.Nat.{◌+◌, ◌≤◌}
 use Rattle.pieces.proofs.Begins.{begun-hmac}
 use native.Mathlib.Omega.{arith}
 use mathlib.Core.Path.{refl, ◌∙◌, ap}
-use borrow.Author.Rules.{rules}
 use Rattle.pieces.proofs.beginning.begin_hmac.Goals as goal
 
 pub feed-front-requires : goal.feed-front-requires

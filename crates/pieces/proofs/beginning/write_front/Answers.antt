@@ -1,7 +1,6 @@
 -- SPDX-License-Identifier: MIT
 use Rattle.pieces.proofs.Begins.{front-written}
 use native.Mathlib.Omega.{arith}
-use borrow.Author.Rules.{rules}
 use Rattle.pieces.proofs.beginning.write_front.Goals as goal
 
 pub returns : goal.returns

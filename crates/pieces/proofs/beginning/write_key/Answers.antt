@@ -1,6 +1,5 @@
 -- SPDX-License-Identifier: MIT
 use Rattle.pieces.proofs.Begins.{key-written}
-use borrow.Author.Rules.{rules}
 use Rattle.pieces.proofs.beginning.write_key.Goals as goal
 
 pub returns : goal.returns

@@ -1,8 +1,5 @@
 -- SPDX-License-Identifier: MIT
 use Rattle.secure_objects.proofs.Steps.{label-derived}
-use native.Mathlib.Omega.{arith}
-use mathlib.Core.Path.{refl}
-use borrow.Author.Rules.{rules}
 use Rattle.secure_objects.proofs.derivation.derive.Goals as goal
 
 pub returns : goal.returns

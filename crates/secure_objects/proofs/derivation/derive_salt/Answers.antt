@@ -1,7 +1,6 @@
 -- SPDX-License-Identifier: MIT
 use Rattle.secure_objects.specs.Derivation.{derived, moq_salt}
 use mathlib.Core.Path.{◌∙◌, ap}
-use borrow.Author.Rules.{rules}
 use Rattle.secure_objects.proofs.derivation.derive_salt.Goals as goal
 
 pub returns : goal.returns

@@ -1,8 +1,7 @@
 -- SPDX-License-Identifier: MIT
 use Rattle.secure_objects.proofs.Steps.{nonce-made}
 use native.Mathlib.Omega.{arith}
-use mathlib.Core.Path.{refl, ◌∙◌}
-use borrow.Author.Rules.{rules}
+use mathlib.Core.Path.{◌∙◌}
 use Rattle.secure_objects.proofs.object.nonce_of.Goals as goal
 
 pub returns : goal.returns

@@ -1,7 +1,6 @@
 -- SPDX-License-Identifier: MIT
 use Rattle.secure_objects.proofs.Steps.{secured-is}
 use mathlib.Core.Path.{◌∙◌}
-use borrow.Author.Rules.{rules}
 use Rattle.secure_objects.proofs.object.secure.Goals as goal
 
 pub returns : goal.returns

@@ -2,7 +2,6 @@
 use Rattle.secure_objects.proofs.Steps.{unsecured-is}
 use Rattle.suites.proofs.Laws.{Nt-most}
 use Rattle.aead.specs.Aead.{is_plain, room_after}
-use native.Mathlib.Omega.{arith}
 use mathlib.Core.Path.{◌∙◌, ap}
 use borrow.Author.Rules.{rules}
 use Rattle.secure_objects.proofs.object.unsecure.Goals as goal

@@ -1,7 +1,6 @@
 -- SPDX-License-Identifier: MIT
 use Rattle.secure_objects.proofs.Steps.{head-written}
 use native.Mathlib.Omega.{arith}
-use borrow.Author.Rules.{rules}
 use Rattle.secure_objects.proofs.object.write_head.Goals as goal
 
 pub returns : goal.returns

@@ -1,8 +1,7 @@
 -- SPDX-License-Identifier: MIT
-use mathlib.Core.Path.{refl, sym, ◌∙◌, ap}
+use mathlib.Core.Path.{refl, ◌∙◌}
 use native.Mathlib.Omega.{arith}
 use lib.ListN.{length-set}
-use borrow.Author.Rules.{rules}
 use Rattle.secure_objects.proofs.Laws.{varint-1, varint-2, varint-4, varint-8, varint-9}
 use Rattle.secure_objects.proofs.Steps.{narrow-written, wide-length, wide-written}
 use Rattle.secure_objects.proofs.varint.write_varint.Goals as goal

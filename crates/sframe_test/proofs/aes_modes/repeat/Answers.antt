@@ -2,10 +2,7 @@
 -- `sframe_test::aes_modes::repeat` meets its contract: the loop's invariant: out is the block encrypted i times over.
 -- Assumes nothing.
 use mathlib.Core.Path.{◌≡◌, refl}
-use Prim.Native.Nat.{◌+◌, ◌≤◌, ◌-◌}
 use native.Mathlib.Omega.{arith}
-use lib.ListN.{length}
-use Rattle.aes.specs.Aes.{encrypt}
 use Rattle.aes_block.specs.Inner.Context.{key_of}
 use Rattle.sframe_test.specs.Repeated.{repeated}
 use Rattle.sframe_test.proofs.Steps.{encrypt-step, repeat-step}

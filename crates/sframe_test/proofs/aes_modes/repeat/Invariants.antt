@@ -1,15 +1,12 @@
 -- SPDX-License-Identifier: MIT
 -- `sframe_test::aes_modes::repeat` meets its contract: the loop's invariant: out is the block encrypted i times over.
 -- Assumes nothing.
-use mathlib.Core.Path.{◌≡◌, refl}
-use Prim.Native.Nat.{◌+◌, ◌≤◌, ◌-◌}
-use native.Mathlib.Omega.{arith}
+use mathlib.Core.Path.{◌≡◌}
+use Prim.Native.Nat.{◌≤◌, ◌-◌}
 use lib.ListN.{length}
 use Rattle.aes.specs.Aes.{encrypt}
 use Rattle.aes_block.specs.Inner.Context.{key_of}
 use Rattle.sframe_test.specs.Repeated.{repeated}
-use Rattle.sframe_test.proofs.Steps.{encrypt-step, repeat-step}
-use borrow.Author.Rules.{rules}
 use Rattle.sframe_test.proofs.aes_modes.repeat.Given as goal
 
 abbrev pub invariant-loop-i : goal.invariant-loop-i

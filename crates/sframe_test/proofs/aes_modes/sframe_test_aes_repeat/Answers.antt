@@ -8,7 +8,6 @@ use lib.ListN.{length}
 use borrow.Author.Tests.{not-true, not-false}
 use Rattle.aes_block.proofs.Contexts.{context-key, context-ready}
 use Rattle.sframe_test.proofs.Steps.{key-size, copied, repeat-of}
-use borrow.Author.Rules.{rules}
 use mathlib.Core.Bool.{not}
 use Rattle.sframe_test.proofs.aes_modes.sframe_test_aes_repeat.Goals as goal
 

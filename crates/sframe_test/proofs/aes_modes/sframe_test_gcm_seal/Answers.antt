@@ -8,7 +8,6 @@ use lib.Seq.{length-take-le}
 use borrow.Author.Tests.{not-true, not-false}
 use Rattle.aes_keys.proofs.Keys16.{context-key, context-ready}
 use Rattle.sframe_test.proofs.Steps.{key-size}
-use borrow.Author.Rules.{rules}
 use mathlib.Core.Bool.{not}
 use mathlib.Core.Path.{ap}
 use Rattle.sframe_test.proofs.aes_modes.sframe_test_gcm_seal.Goals as goal

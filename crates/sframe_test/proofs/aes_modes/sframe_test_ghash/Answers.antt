@@ -6,7 +6,6 @@ use mathlib.Core.Logic.{inl, inr}
 use native.Mathlib.Omega.{arith}
 use mathlib.Core.List.{append-nil}
 use Rattle.ghash.proofs.Laws.{hash-key-of, hash-key-ready}
-use borrow.Author.Rules.{rules}
 use Rattle.sframe_test.proofs.aes_modes.sframe_test_ghash.Goals as goal
 
 pub returns-then-key-ne16 : goal.returns-then-key-ne16

@@ -8,7 +8,6 @@ use Rattle.octets.specs.Octets.{pick}
 use mathlib.Core.Logic.{inl, inr}
 use native.Mathlib.Omega.{arith}
 use borrow.Author.Tests.{not-true, not-false}
-use borrow.Author.Rules.{rules}
 use mathlib.Core.Bool.{not}
 use Rattle.sframe_test.proofs.cipher_suites.decrypt_known.Goals as goal
 

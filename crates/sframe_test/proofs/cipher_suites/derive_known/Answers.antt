@@ -4,7 +4,6 @@
 use mathlib.Core.Path.{refl}
 use mathlib.Core.Logic.{inl, inr}
 use native.Mathlib.Omega.{arith}
-use borrow.Author.Rules.{rules}
 use Rattle.sframe_test.proofs.cipher_suites.derive_known.Goals as goal
 
 pub returns-then-base-gt-MAX_BASE : goal.returns-then-base-gt-MAX_BASE

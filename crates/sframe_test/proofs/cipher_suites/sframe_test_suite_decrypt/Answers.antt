@@ -2,7 +2,6 @@
 -- `sframe_test::cipher_suites::sframe_test_suite_decrypt` meets its contract: what it answers for a known suite is handed on.
 -- Assumes nothing.
 use mathlib.Core.Path.{refl, sym, ◌∙◌}
-use borrow.Author.Rules.{rules}
 use Rattle.sframe_test.proofs.cipher_suites.sframe_test_suite_decrypt.Goals as goal
 
 pub returns-in-Known : goal.returns-in-Known

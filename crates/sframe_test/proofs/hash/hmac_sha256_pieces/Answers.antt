@@ -3,7 +3,6 @@ use mathlib.Core.Path.{sym}
 use mathlib.Core.List.{[]}
 use native.Mathlib.Omega.{arith}
 use Rattle.sha2_common.proofs.Laws.{pieces, pieces-lengths}
-use borrow.Author.Rules.{rules}
 use Rattle.sframe_test.proofs.hash.hmac_sha256_pieces.Goals as goal
 
 pub slice_bounds-feed-end : goal.slice_bounds-feed-end

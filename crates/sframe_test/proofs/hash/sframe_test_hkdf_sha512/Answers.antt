@@ -2,7 +2,6 @@
 use mathlib.Core.Path.{refl}
 use mathlib.Core.Logic.{inl, inr}
 use native.Mathlib.Omega.{arith}
-use borrow.Author.Rules.{rules}
 use Rattle.sframe_test.proofs.hash.sframe_test_hkdf_sha512.Goals as goal
 
 pub returns-then-ikm-gt-LARGEST : goal.returns-then-ikm-gt-LARGEST

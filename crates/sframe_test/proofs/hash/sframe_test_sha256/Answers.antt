@@ -2,7 +2,6 @@
 use mathlib.Core.Path.{refl}
 use mathlib.Core.Logic.{inl, inr}
 use native.Mathlib.Omega.{arith}
-use borrow.Author.Rules.{rules}
 use Rattle.sframe_test.proofs.hash.sframe_test_sha256.Goals as goal
 
 pub returns-then-message-gt-MAXIMUM : goal.returns-then-message-gt-MAXIMUM

@@ -3,7 +3,6 @@ use mathlib.Core.Path.{refl}
 use Prim.Native.Nat.{◌+◌}
 use native.Mathlib.Omega.{arith}
 use lib.ListN.{length}
-use borrow.Author.Rules.{rules}
 use Rattle.octets.proofs.Laws.{front-most}
 use Rattle.suites.proofs.Steps.{label-front, label-derived}
 use Rattle.suites.proofs.derivation.derive.Goals as goal

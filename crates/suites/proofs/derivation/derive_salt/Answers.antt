@@ -1,6 +1,5 @@
 -- SPDX-License-Identifier: MIT
 use mathlib.Core.Path.{◌∙◌, ap}
-use borrow.Author.Rules.{rules}
 use Rattle.suites.specs.Derivation.{derived, sframe_salt}
 use Rattle.suites.proofs.derivation.derive_salt.Goals as goal
 

@@ -1,6 +1,5 @@
 -- SPDX-License-Identifier: MIT
 use mathlib.Core.Path.{sym, ◌∙◌, ap}
-use borrow.Author.Rules.{rules}
 use Rattle.sha2_common.specs.Sizes.{sha256, sha512}
 use Rattle.suites.specs.Suites.{params_of}
 use Rattle.suites.proofs.Steps.{expanded}

@@ -1,7 +1,6 @@
 -- SPDX-License-Identifier: MIT
 use mathlib.Core.Path.{◌∙◌}
 use native.Mathlib.Omega.{arith}
-use borrow.Author.Rules.{rules}
 use Rattle.suites.proofs.Steps.{nonce-made}
 use Rattle.suites.proofs.derivation.nonce_of.Goals as goal
 

@@ -1,5 +1,4 @@
 -- SPDX-License-Identifier: MIT
-use borrow.Author.Rules.{rules}
 use Rattle.suites.proofs.Steps.{label-written}
 use Rattle.suites.proofs.derivation.write_label.Goals as goal
 

@@ -1,6 +1,5 @@
 -- SPDX-License-Identifier: MIT
 use Rattle.track_record.proofs.Steps.{zeros-same}
-use borrow.Author.Rules.{rules}
 use Rattle.track_record.proofs.judging.is_zero.Goals as goal
 
 pub returns : goal.returns

@@ -1,8 +1,7 @@
 -- SPDX-License-Identifier: MIT
 use Rattle.track_record.proofs.Steps.{judged-empty, judged-other, judged-fits, zeros-empty}
 use native.Mathlib.Omega.{arith}
-use mathlib.Core.Path.{refl, sym, ◌∙◌}
-use borrow.Author.Rules.{rules}
+use mathlib.Core.Path.{sym, ◌∙◌}
 use mathlib.Core.Bool.{not}
 use mathlib.Core.Path.{ap}
 use Rattle.track_record.proofs.judging.obeys_layout.Goals as goal

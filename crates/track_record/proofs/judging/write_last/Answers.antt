@@ -1,7 +1,6 @@
 -- SPDX-License-Identifier: MIT
 use Rattle.track_record.proofs.Steps.{last_none, last_written, object-low}
 use native.Mathlib.Omega.{arith}
-use borrow.Author.Rules.{rules}
 use Rattle.track_record.proofs.judging.write_last.Goals as goal
 
 pub returns-then-row-eq0 : goal.returns-then-row-eq0

@@ -2,7 +2,6 @@
 use Rattle.track_record.proofs.Steps.{advanced-row}
 use native.Mathlib.Omega.{arith}
 use mathlib.Core.Path.{◌∙◌}
-use borrow.Author.Rules.{rules}
 use Rattle.track_record.proofs.row.advance.Goals as goal
 
 pub returns : goal.returns

@@ -1,5 +1,4 @@
 -- SPDX-License-Identifier: MIT
-use native.Mathlib.Omega.{arith}
 use Rattle.track_record.proofs.Steps.{filled}
 use Rattle.suites.proofs.Laws.{Nk-most}
 use Prim.Native.Nat.{◌+◌}

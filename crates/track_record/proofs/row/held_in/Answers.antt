@@ -2,7 +2,6 @@
 use Rattle.track_record.proofs.Steps.{held_low, held_high, held-long, held-unsuited, held-track}
 use Rattle.track_record.specs.Layout.{suite_at}
 use native.Mathlib.Omega.{arith}
-use borrow.Author.Rules.{rules}
 use Rattle.track_record.proofs.row.held_in.Goals as goal
 
 pub returns-then-mark-lt-SENDER : goal.returns-then-mark-lt-SENDER

@@ -2,7 +2,6 @@
 use Rattle.track_record.proofs.Steps.{holds_not, holds-other, holds_named}
 use Rattle.track_record.specs.Layout.{decode}
 use mathlib.Core.Path.{sym, ◌∙◌}
-use borrow.Author.Rules.{rules}
 use Rattle.track_record.proofs.row.holds.Goals as goal
 
 pub returns-then-is_empty : goal.returns-then-is_empty

@@ -2,8 +2,6 @@
 use mathlib.Core.Path.{refl}
 use Rattle.track_record.proofs.Steps.{below-never, below-group, below-object}
 use native.Mathlib.Omega.{arith}
-use mathlib.Core.Path.{sym, ◌∙◌}
-use borrow.Author.Rules.{rules}
 use Rattle.track_record.proofs.row.is_below.Goals as goal
 
 pub returns-then-row-eq0 : goal.returns-then-row-eq0

@@ -1,7 +1,6 @@
 -- SPDX-License-Identifier: MIT
 use Rattle.track_record.specs.Layout.{decode}
 use Rattle.track_record.proofs.Steps.{nothing-empty, something-held}
-use borrow.Author.Rules.{rules}
 use Rattle.track_record.proofs.row.is_empty.Goals as goal
 
 pub returns-in_default : goal.returns-in_default

@@ -1,7 +1,6 @@
 -- SPDX-License-Identifier: MIT
 use Rattle.track_record.proofs.Steps.{key_id-read}
 use mathlib.Core.Path.{◌∙◌}
-use borrow.Author.Rules.{rules}
 use Rattle.track_record.proofs.row.key_id_of.Goals as goal
 
 pub returns : goal.returns

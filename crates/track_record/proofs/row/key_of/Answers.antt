@@ -4,7 +4,7 @@ use Rattle.suites.proofs.Laws.{Nk-most}
 use native.Mathlib.Omega.{arith}
 use lib.ListN.{length-take, length-drop}
 use Prim.Native.Nat.{◌+◌}
-use mathlib.Core.Path.{◌∙◌, ap}
+use mathlib.Core.Path.{ap}
 use borrow.Author.Rules.{rules}
 use Rattle.track_record.proofs.row.key_of.Goals as goal
 

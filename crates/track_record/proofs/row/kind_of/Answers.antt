@@ -2,7 +2,6 @@
 use Rattle.track_record.proofs.Steps.{kind-retired}
 use Rattle.track_record.specs.Layout.{kind_of}
 use mathlib.Core.Path.{sym, ap}
-use borrow.Author.Rules.{rules}
 use Rattle.track_record.proofs.row.kind_of.Goals as goal
 
 pub returns-then-mark-eq-SENDER : goal.returns-then-mark-eq-SENDER

@@ -2,7 +2,6 @@
 use Rattle.track_record.proofs.Steps.{name-inside, name-read}
 use native.Mathlib.Omega.{arith}
 use mathlib.Core.Path.{refl}
-use borrow.Author.Rules.{rules}
 use Rattle.track_record.proofs.row.name_of.Goals as goal
 
 pub slice_bounds-result-end : goal.slice_bounds-result-end

@@ -2,7 +2,6 @@
 use mathlib.Core.Path.{refl}
 use Rattle.track_record.proofs.Steps.{retired-row}
 use native.Mathlib.Omega.{arith}
-use borrow.Author.Rules.{rules}
 use Rattle.track_record.proofs.row.retire.Goals as goal
 
 pub returns : goal.returns

@@ -2,7 +2,6 @@
 use Rattle.track_record.proofs.Steps.{salt-read}
 use native.Mathlib.Omega.{arith}
 use lib.ListN.{length-take, length-drop}
-use borrow.Author.Rules.{rules}
 use Rattle.track_record.proofs.row.salt_of.Goals as goal
 
 pub returns : goal.returns

@@ -4,7 +4,6 @@ use Rattle.suites.proofs.Laws.{number-byte}
 use lib.ListN.{length-set}
 use native.Mathlib.Omega.{arith}
 use mathlib.Core.Path.{refl}
-use borrow.Author.Rules.{rules}
 use Rattle.track_record.proofs.row.start.Goals as goal
 
 pub overflow_cast-row : goal.overflow_cast-row

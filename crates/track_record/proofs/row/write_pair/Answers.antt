@@ -2,7 +2,6 @@
 use Rattle.track_record.proofs.Steps.{pair-written}
 use lib.ListN.{length-set}
 use native.Mathlib.Omega.{arith}
-use borrow.Author.Rules.{rules}
 use Rattle.track_record.proofs.row.write_pair.Goals as goal
 
 pub shape_of-row : goal.shape_of-row

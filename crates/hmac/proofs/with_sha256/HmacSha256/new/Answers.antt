@@ -1,7 +1,6 @@
 -- SPDX-License-Identifier: MIT
 use Rattle.sha2_common.specs.Sizes.{sha256}
 use Rattle.hmac.proofs.Steps.{keyed-new}
-use borrow.Author.Rules.{rules}
 use Rattle.hmac.proofs.with_sha256.HmacSha256.new.Goals as goal
 
 pub returns : goal.returns

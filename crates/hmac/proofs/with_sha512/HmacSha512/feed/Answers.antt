@@ -2,7 +2,6 @@
 use mathlib.Core.Path.{refl}
 use Rattle.sha2_common.specs.Sizes.{sha512}
 use Rattle.hmac.proofs.Steps.{keyed-feed}
-use borrow.Author.Rules.{rules}
 use Rattle.hmac.proofs.with_sha512.HmacSha512.feed.Goals as goal
 
 pub returns : goal.returns

@@ -1,6 +1,5 @@
 -- SPDX-License-Identifier: MIT
 use mathlib.Core.Path.{sym, ap}
-use borrow.Author.Rules.{rules}
 use Rattle.suites.specs.Suites.{number_of}
 use Rattle.suites.proofs.sizes.Suite.number.Goals as goal
 
