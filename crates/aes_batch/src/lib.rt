@@ -8,9 +8,9 @@
 
 ghost use Rattle.std.specs.Prelude.{◌≡◌, ◌++◌, ◌+◌, ◌*◌, ◌%◌, ◌≤◌, ◌<◌, length, drop};
 ghost use Rattle.bit_transpose.specs.Transposition.{Transposed};
-ghost use Rattle.aes_rows.specs.Rows.{state_planes, Each};
+ghost use Rattle.aes_rows.specs.Rows.{Each};
 ghost use Rattle.aes_keys.specs.Inner.Keys.{Ready, key_of, rounds_at, size};
-ghost use Rattle.aes_batch.specs.Inner.Batch.{batch_blocks, batch_size, Numbers, Numbered, Cleared, Clearing, Transposing, Counters, Encrypted, Gathered, word_bytes, Unsliced, Blocks, counters_of, front_of};
+ghost use Rattle.aes_batch.specs.Inner.Batch.{Numbers, Numbered, Cleared, Clearing, Transposing, Counters, Encrypted, Gathered, word_bytes, Unsliced, Blocks, counters_of, front_of};
 
 use aes::BLOCK;
 use aes_keys::Context;
@@ -27,7 +27,7 @@ pub type Batch = [u8; BYTES];
 
 // Adds to the last column of each block its number. The lane of block m is m / 2, and 8 more where m is odd.
 fn number(q: &mut [u64])
-    requires { length q.old ≡ state_planes }
+    requires { length q.old ≡ 32 }
     ensures { Numbered q.old q.new }
 {
     let n = Planes {
@@ -46,7 +46,7 @@ fn number(q: &mut [u64])
 
 // The counter blocks of a nonce, from a block count on.
 fn counters(q: &mut [u64], nonce: &[u8], count: u32)
-    requires { (length q.old ≡ state_planes) × (length nonce.now ≡ 12) × (count % batch_blocks ≡ 0) }
+    requires { (length q.old ≡ 32) × (length nonce.now ≡ 12) × (count % 16 ≡ 0) }
     ensures { Counters nonce.now count q.new }
 {
     let a = octets::read_be32(nonce);
@@ -74,7 +74,7 @@ fn without_first(a: Planes) -> Planes
 
 // Makes block 0 the block of zeros.
 fn clear_first(q: &mut [u64])
-    requires { length q.old ≡ state_planes }
+    requires { length q.old ≡ 32 }
     ensures { Each Clearing 4 q.old q.new }
 {
     let mut r = 0;
@@ -87,7 +87,7 @@ fn clear_first(q: &mut [u64])
 
 // The encryption of sixteen states (FIPS 197 §5.1).
 fn encrypt(ctx: &[u64], q: &mut [u64])
-    requires { (Ready ctx.now) × (length q.old ≡ state_planes) }
+    requires { (Ready ctx.now) × (length q.old ≡ 32) }
     ensures { Encrypted (key_of ctx.now) q.old q.new }
 {
     let n = ctx[aes_keys::ROUNDS_AT] as usize;
@@ -108,7 +108,7 @@ fn encrypt(ctx: &[u64], q: &mut [u64])
 
 // Planes into bytes, row by row.
 fn transpose(q: &mut [u64])
-    requires { length q.old ≡ state_planes }
+    requires { length q.old ≡ 32 }
     ensures { Each Transposing 4 q.old q.new }
 {
     let mut r = 0;
@@ -121,7 +121,7 @@ fn transpose(q: &mut [u64])
 
 // Rows of bytes into the words of blocks, two blocks at a time.
 fn gather(w: &mut [u64], q: &[u64])
-    requires { (length w.old ≡ state_planes) × (length q.now ≡ state_planes) }
+    requires { (length w.old ≡ 32) × (length q.now ≡ 32) }
     ensures { Gathered 8 q.now w.new }
 {
     let mut i = 0;
@@ -138,8 +138,8 @@ fn gather(w: &mut [u64], q: &[u64])
 
 // Writes the words of a state as bytes.
 fn write(out: &mut [u8], q: &[u64])
-    requires { (length out.old ≡ batch_size) × (length q.now ≡ state_planes) }
-    ensures { out.new ≡ word_bytes state_planes q.now }
+    requires { (length out.old ≡ 256) × (length q.now ≡ 32) }
+    ensures { out.new ≡ word_bytes 32 q.now }
 {
     let mut i = 0;
     while i < PLANES {
@@ -151,7 +151,7 @@ fn write(out: &mut [u8], q: &[u64])
 
 // The bytes of sixteen states.
 fn unslice(q: &mut [u64]) -> Batch
-    requires { length q.old ≡ state_planes }
+    requires { length q.old ≡ 32 }
     ensures { Unsliced q.old result }
 {
     transpose(q);
@@ -164,7 +164,7 @@ fn unslice(q: &mut [u64]) -> Batch
 
 // The encrypted counter blocks of a nonce, from a block count on.
 pub fn stream(ctx: &Context, nonce: &[u8], count: u32) -> Batch
-    requires { (Ready ctx.now) × (length nonce.now ≡ 12) × (count % batch_blocks ≡ 0) }
+    requires { (Ready ctx.now) × (length nonce.now ≡ 12) × (count % 16 ≡ 0) }
     ensures { Blocks (key_of ctx.now) (counters_of nonce.now count) result }
 {
     let mut q = [0u64; PLANES];
@@ -175,7 +175,7 @@ pub fn stream(ctx: &Context, nonce: &[u8], count: u32) -> Batch
 
 // The same with the encrypted block of zeros in the place of the first.
 pub fn front(ctx: &Context, nonce: &[u8], count: u32) -> Batch
-    requires { (Ready ctx.now) × (length nonce.now ≡ 12) × (count % batch_blocks ≡ 0) }
+    requires { (Ready ctx.now) × (length nonce.now ≡ 12) × (count % 16 ≡ 0) }
     ensures { Blocks (key_of ctx.now) (front_of nonce.now count) result }
 {
     let mut q = [0u64; PLANES];

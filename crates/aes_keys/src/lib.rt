@@ -5,7 +5,6 @@
 
 ghost use Rattle.std.specs.Prelude.{◌≡◌, ◌+◌, ◌*◌, ◌/◌, ◌%◌, ◌^◌, ◌≤◌, ◌<◌, length};
 ghost use Rattle.aes.specs.Aes.{KeySize};
-ghost use Rattle.aes_rows.specs.Rows.{state_planes};
 ghost use Rattle.aes_keys.specs.Inner.Keys.{size, packed, Filled, Context};
 
 use aes_rows::PLANES;
@@ -45,7 +44,7 @@ fn pack(w0: u32, w1: u32, w2: u32, w3: u32, s: u32) -> u64
 
 // Fills q with sixteen blocks that have these four columns.
 pub fn fill(q: &mut [u64], w0: u32, w1: u32, w2: u32, w3: u32)
-    requires { length q.old ≡ state_planes }
+    requires { length q.old ≡ 32 }
     ensures { Filled w0 w1 w2 w3 q.new }
 {
     let mut r = 0;

@@ -3,7 +3,6 @@
 -- Assumes nothing.
 use Rattle.std.specs.Prelude.{◌≡◌, List, ℕ, ◌+◌, ◌*◌, ◌-◌, ◌<◌, length, get_or}
 use Rattle.aes.specs.Aes.{word, columns}
-use Rattle.aes_rows.specs.Rows.{state_planes}
 use Rattle.aes_rows.specs.Rounds.{byte_at}
 
 -- The lane of column c of block m.
@@ -19,5 +18,5 @@ state q m = columns (column q m)
 
 -- Each block of k is the round key r of the key schedule w.
 pub record KeyPlanes (w : List ℕ) (r : ℕ) (k : List ℕ) : Type 0 where
-  pub sized : length k ≡ state_planes
+  pub sized : length k ≡ 32
   pub each : (m c : ℕ) → m < 16 → c < 4 → column k m c ≡ get_or w (4 * r + c) 0

@@ -25,13 +25,13 @@ row_at q r =
 
 -- t is q with p as row r.
 pub record RowSet (q : List ℕ) (r : ℕ) (p : Planes) (t : List ℕ) : Type 0 where
-  pub sized : length t ≡ state_planes
+  pub sized : length t ≡ 32
   pub same : row_at t r ≡ p
   pub others : (s : ℕ) → s < 4 → (s ≡ r → ⊥) → row_at t s ≡ row_at q s
 
 -- The first n rows of t are related to those of q, the others are the same.
 pub record Each (R : ℕ → Planes → Planes → Type 0) (n : ℕ) (q t : List ℕ) : Type 0 where
-  pub sized : length t ≡ state_planes
+  pub sized : length t ≡ 32
   pub done : (s : ℕ) → s < n → R s (row_at q s) (row_at t s)
   pub left : (s : ℕ) → s < 4 → n ≤ s → row_at t s ≡ row_at q s
 

@@ -7,7 +7,7 @@
 
 ghost use Rattle.std.specs.Prelude.{◌≡◌, ◌+◌, ◌*◌, ◌<◌, ◌≤◌, length};
 ghost use Rattle.bitslice.specs.Lanes.{Sum, Mixed};
-ghost use Rattle.aes_rows.specs.Rows.{state_planes, row_at, RowSet, Each, Substituting, Adding};
+ghost use Rattle.aes_rows.specs.Rows.{row_at, RowSet, Each, Substituting, Adding};
 ghost use Rattle.aes_rows.specs.Rounds.{Shifted, RowMixed, RowAdded, AllMixed, AllShifted};
 
 use bitslice::Planes;
@@ -17,7 +17,7 @@ pub const PLANES: usize = 32;
 
 // Row r.
 pub fn load_row(q: &[u64], r: usize) -> Planes
-    requires { (length q.now ≡ state_planes) × (r < 4) }
+    requires { (length q.now ≡ 32) × (r < 4) }
     ensures { result ≡ row_at q.now r }
 {
     let k = 8 * r;
@@ -35,7 +35,7 @@ pub fn load_row(q: &[u64], r: usize) -> Planes
 
 // Writes row r.
 pub fn store_row(q: &mut [u64], r: usize, p: Planes)
-    requires { (length q.old ≡ state_planes) × (r < 4) }
+    requires { (length q.old ≡ 32) × (r < 4) }
     ensures { RowSet q.old r p q.new }
 {
     let k = 8 * r;
@@ -51,7 +51,7 @@ pub fn store_row(q: &mut [u64], r: usize, p: Planes)
 
 // SubBytes.
 pub fn sub_rows(q: &mut [u64])
-    requires { length q.old ≡ state_planes }
+    requires { length q.old ≡ 32 }
     ensures { Each Substituting 4 q.old q.new }
 {
     let mut r = 0;
@@ -75,7 +75,7 @@ pub struct State {
 
 // ShiftRows.
 fn shifted(q: &[u64]) -> State
-    requires { length q.now ≡ state_planes }
+    requires { length q.now ≡ 32 }
     ensures { Shifted q.now result }
 {
     let a = load_row(q, 0);
@@ -92,7 +92,7 @@ fn shifted(q: &[u64]) -> State
 
 // Row r of MixColumns and AddRoundKey: s times x, b, t and the key.
 fn mix_into(q: &mut [u64], k: &[u64], r: usize, s: Planes, b: Planes, t: Planes)
-    requires { (length q.old ≡ state_planes) × (length k.now ≡ state_planes) × (r < 4) }
+    requires { (length q.old ≡ 32) × (length k.now ≡ 32) × (r < 4) }
     ensures { RowMixed q.old k.now r s b t q.new }
 {
     let p = bitslice::mix(s, b, t, load_row(k, r));
@@ -101,7 +101,7 @@ fn mix_into(q: &mut [u64], k: &[u64], r: usize, s: Planes, b: Planes, t: Planes)
 
 // ShiftRows, MixColumns and AddRoundKey. Each sum of two rows is made once and used in two.
 pub fn mix(q: &mut [u64], k: &[u64])
-    requires { (length q.old ≡ state_planes) × (length k.now ≡ state_planes) }
+    requires { (length q.old ≡ 32) × (length k.now ≡ 32) }
     ensures { AllMixed q.old k.now q.new }
 {
     let s = shifted(q);
@@ -117,7 +117,7 @@ pub fn mix(q: &mut [u64], k: &[u64])
 
 // Row r of AddRoundKey, of the row a.
 fn add_into(q: &mut [u64], k: &[u64], r: usize, a: Planes)
-    requires { (length q.old ≡ state_planes) × (length k.now ≡ state_planes) × (r < 4) }
+    requires { (length q.old ≡ 32) × (length k.now ≡ 32) × (r < 4) }
     ensures { RowAdded q.old k.now r a q.new }
 {
     let p = bitslice::plus(a, load_row(k, r));
@@ -126,7 +126,7 @@ fn add_into(q: &mut [u64], k: &[u64], r: usize, a: Planes)
 
 // ShiftRows and AddRoundKey, as in the last round.
 pub fn last(q: &mut [u64], k: &[u64])
-    requires { (length q.old ≡ state_planes) × (length k.now ≡ state_planes) }
+    requires { (length q.old ≡ 32) × (length k.now ≡ 32) }
     ensures { AllShifted q.old k.now q.new }
 {
     let s = shifted(q);
@@ -138,7 +138,7 @@ pub fn last(q: &mut [u64], k: &[u64])
 
 // AddRoundKey.
 pub fn add(q: &mut [u64], k: &[u64])
-    requires { (length q.old ≡ state_planes) × (length k.now ≡ state_planes) }
+    requires { (length q.old ≡ 32) × (length k.now ≡ 32) }
     ensures { Each (Adding k.now) 4 q.old q.new }
 {
     let mut r = 0;

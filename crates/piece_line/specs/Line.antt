@@ -16,7 +16,7 @@ use Rattle.gcm.specs.Gcm.{hash_key, tag_size}
 use Rattle.suites.specs.declared.sizes.Suite.{Suite}
 use Rattle.suites.specs.declared.sizes.Mode.{Mode}
 use Rattle.suites.specs.declared.sizes.Mode.TheVariants.{CtrHmac, Gcm}
-use Rattle.suites.specs.Suites.{number_of, mode_of, Nn, Nt}
+use Rattle.suites.specs.Suites.{number_of, mode_of, Nt}
 use Rattle.aead.specs.Aead.{cipher_key, auth_key, first_count}
 use Rattle.piece_stream.specs.CounterFrom.{ctr_from}
 use Rattle.piece_hash.specs.Held.{kept, fed_hash, digest_of, kept_block, absorb_whole, left_over, fed_blocks, blocks_of}
@@ -58,7 +58,7 @@ begun kind suite n nonce key aad = state_after kind suite n nonce key aad []
 
 -- The bytes that the inner hash has taken before the ciphertext: a block of the key, three lengths, nonce, associated data.
 abbrev pub before : ℕ → ℕ
-before aad = sha256.block + 3 * length_size + Nn + aad
+before aad = 64 + 36 + aad
 
 -- The running hash b of a line once c has been taken too.
 abbrev pub hash_more : (mode : Mode) (key : List ℕ) (aad taken : ℕ) (b c : List ℕ) → List ℕ

@@ -3,9 +3,8 @@
 #![tactic(auto)]
 
 ghost use Rattle.std.specs.Prelude.{◌≡◌, ◌+◌, ◌*◌, ◌≤◌, ◌<◌, length};
-ghost use Rattle.aes.specs.Aes.{block_size};
 ghost use Rattle.aes_keys.specs.Inner.Keys.{Ready, key_of};
-ghost use Rattle.aes_batch.specs.Inner.Batch.{batch_size, Blocks, front_of};
+ghost use Rattle.aes_batch.specs.Inner.Batch.{Blocks, front_of};
 ghost use Rattle.gcm.specs.Counter.{nonce_size};
 ghost use Rattle.gcm.specs.Inner.Limits.{counts};
 ghost use Rattle.piece_stream.specs.CounterFrom.{ctr_from};
@@ -22,7 +21,7 @@ pub fn apply_from(ctx: &Context, nonce: &[u8], count: u32, at: usize, input: &[u
     requires ready { Ready ctx.now }
     requires nonce_len { length nonce.now ≡ nonce_size }
     requires out_len { length out.old ≡ length input.now }
-    requires input_bound { block_size * count + (at + length input.now) < counts }
+    requires input_bound { 16 * count + (at + length input.now) < counts }
     ensures { out.new ≡ ctr_from (key_of ctx.now) nonce.now count at input.now }
 {
     let start = BLOCK * count as usize + at;
@@ -39,7 +38,7 @@ pub fn apply_from(ctx: &Context, nonce: &[u8], count: u32, at: usize, input: &[u
 
 // The batch that byte number at of that key stream lies in, with the encrypted block of zeros in the place of its first block.
 pub fn front(ctx: &Context, nonce: &[u8], count: u32, at: usize) -> Batch
-    requires { Ready ctx.now × (length nonce.now ≡ nonce_size) × (block_size * count + at < counts) }
+    requires { Ready ctx.now × (length nonce.now ≡ nonce_size) × (16 * count + at < counts) }
     ensures { Blocks (key_of ctx.now) (front_of nonce.now (batch_at count at)) result }
 {
     let p = BLOCK * count as usize + at;
@@ -48,8 +47,8 @@ pub fn front(ctx: &Context, nonce: &[u8], count: u32, at: usize) -> Batch
 
 // How many of n bytes from byte i of a batch on its front has key stream for.
 fn in_front(i: usize, n: usize) -> usize
-    requires { i < batch_size }
-    ensures { (result ≡ in_front i n) × (result ≤ n) × (i + result ≤ batch_size) }
+    requires { i < 256 }
+    ensures { (result ≡ in_front i n) × (result ≤ n) × (i + result ≤ 256) }
 {
     if i < BLOCK {
         return 0;
@@ -70,7 +69,7 @@ pub fn apply_front(
     requires ready { Ready ctx.now × (length nonce.now ≡ nonce_size) }
     requires blocks { Blocks (key_of ctx.now) (front_of nonce.now (batch_at count at)) f.now }
     requires out_len { length out.old ≡ length input.now }
-    requires input_bound { block_size * count + (at + length input.now) < counts }
+    requires input_bound { 16 * count + (at + length input.now) < counts }
     ensures { out.new ≡ ctr_from (key_of ctx.now) nonce.now count at input.now }
 {
     let from = (BLOCK * count as usize + at) % BYTES;

@@ -23,7 +23,6 @@ use Rattle.piece_stream.specs.CounterFrom.{ctr_from}
 use Rattle.piece_stream.proofs.Laws as Stream
 use Rattle.piece_hash.specs.Held.{room_in, held, fed_hash, kept_block, absorb_whole, left_over, fed_blocks}
 use Rattle.piece_hash.proofs.Joins.{Words, fed-again, fed-room, run_length, kept-length, block-length, fed-blocks-again}
-use Rattle.answers.specs.Limits.{max_plaintext}
 use Rattle.piece_line.specs.State.{aad_in, taken_in, nonce_in, key_in, hash_in}
 use Rattle.piece_line.specs.Line.{before, hash_more, after, cipher_piece}
 use Rattle.piece_line.proofs.Lines.{hash-key-lt}
@@ -131,7 +130,7 @@ module _ (suite : Suite) (s : List ℕ) (l : 168 ≤ length s) where
   hash-then : (x : List ℕ) → hash_in (after suite s x) ≡ H x
   hash-then x = ap (take 96) (d72 x) ∙ take_at (H x) (drop 168 s) 96 (H-length x)
 
-  taken_then : (x : List ℕ) → taken_in s + length x ≤ max_plaintext → taken_in (after suite s x) ≡ taken_in s + length x
+  taken_then : (x : List ℕ) → taken_in s + length x ≤ 32768 → taken_in (after suite s x) ≡ taken_in s + length x
   taken_then x h =
       ap (number 4) (d68 x)
       ∙ number_append 4 (bytes 4 (taken_in s + length x)) (H x ++ drop 168 s) (omega (arith, T-length x))
@@ -156,7 +155,7 @@ module _ (suite : Suite) (s : List ℕ) (l : 168 ≤ length s) where
   d168 x = sym (drop-drop 96 72 (after suite s x)) ∙ ap (drop 96) (d72 x) ∙ drop_at (H x) (drop 168 s) 96 (H-length x)
 
 -- Two pieces of ciphertext are taken as one.
-pub pieces-join : (suite : Suite) (s x y : List ℕ) → 168 ≤ length s → Octets s → taken_in s + length x ≤ max_plaintext
+pub pieces-join : (suite : Suite) (s x y : List ℕ) → 168 ≤ length s → Octets s → taken_in s + length x ≤ 32768
     → after suite (after suite s x) y ≡ after suite s (x ++ y)
 pieces-join suite s x y l o h =
     let r = after suite s x in
@@ -187,7 +186,7 @@ pieces-join suite s x y l o h =
         ) (omega arith)
 
 -- Their ciphertext is that of both, one after the other.
-pub ciphers-join : (suite : Suite) (s x y : List ℕ) → 168 ≤ length s → taken_in s + length x ≤ max_plaintext
+pub ciphers-join : (suite : Suite) (s x y : List ℕ) → 168 ≤ length s → taken_in s + length x ≤ 32768
     → cipher_piece suite s (x ++ y) ≡ cipher_piece suite s x ++ cipher_piece suite (after suite s (cipher_piece suite s x)) y
 unfolding cipher_piece
 ciphers-join suite s x y l h =

@@ -8,7 +8,7 @@ use Rattle.aes.specs.Aes.{block_size, encrypt_state, block_of, encrypt}
 use Rattle.bitslice.specs.declared.Planes.{Planes}
 use Rattle.bitslice.specs.Lanes.{lane_byte, Sum}
 use Rattle.bit_transpose.specs.Transposition.{column, Transposed}
-use Rattle.aes_rows.specs.Rows.{state_planes, row_at, Each}
+use Rattle.aes_rows.specs.Rows.{row_at, Each}
 use Rattle.aes_rows.specs.Blocks.{state}
 
 -- The blocks of a batch, and their bytes.
@@ -27,33 +27,33 @@ number_of l = 2 * (l % 8) + l / 8
 
 -- A row that has in each lane of the last column the number of the block, and else 0.
 pub record Numbers (n : Planes) : Type 0 where
-  pub last : (l : ℕ) → l < batch_blocks → lane_byte l n ≡ number_of l
-  pub others : (j : ℕ) → batch_blocks ≤ j → j < 64 → lane_byte j n ≡ 0
+  pub last : (l : ℕ) → l < 16 → lane_byte l n ≡ number_of l
+  pub others : (j : ℕ) → 16 ≤ j → j < 64 → lane_byte j n ≡ 0
 
 -- Those numbers are added to the last row.
 pub record Numbered (q t : List ℕ) : Type 0 where
-  pub sized : length t ≡ state_planes
+  pub sized : length t ≡ 32
   pub same : (s : ℕ) → s < 3 → row_at t s ≡ row_at q s
-  pub last : (l : ℕ) → l < batch_blocks → lane_byte l (row_at t 3) ≡ bit_xor (lane_byte l (row_at q 3)) (number_of l)
-  pub others : (j : ℕ) → batch_blocks ≤ j → j < 64 → lane_byte j (row_at t 3) ≡ lane_byte j (row_at q 3)
+  pub last : (l : ℕ) → l < 16 → lane_byte l (row_at t 3) ≡ bit_xor (lane_byte l (row_at q 3)) (number_of l)
+  pub others : (j : ℕ) → 16 ≤ j → j < 64 → lane_byte j (row_at t 3) ≡ lane_byte j (row_at q 3)
 
 -- The state in lane l is that of the counter block of its number.
 pub record Counters (nonce : List ℕ) (count : ℕ) (q : List ℕ) : Type 0 where
-  pub sized : length q ≡ state_planes
-  pub each : (l : ℕ) → l < batch_blocks
+  pub sized : length q ≡ 32
+  pub each : (l : ℕ) → l < 16
       → state q l ≡ number 4 nonce ∷ number 4 (drop 4 nonce) ∷ number 4 (drop 8 nonce) ∷ (count + number_of l) ∷ []
 
 -- The lanes of block 0 are cleared.
 pub record Cleared (a b : Planes) : Type 0 where
-  pub each : (j : ℕ) → j < 64 → lane_byte j b ≡ pick (eqb (j % batch_blocks) 0) 0 (lane_byte j a)
+  pub each : (j : ℕ) → j < 64 → lane_byte j b ≡ pick (eqb (j % 16) 0) 0 (lane_byte j a)
 
 abbrev pub Clearing : ℕ → Planes → Planes → Type 0
 Clearing s a b = Cleared a b
 
 -- Each state is encrypted.
 pub record Encrypted (key q t : List ℕ) : Type 0 where
-  pub sized : length t ≡ state_planes
-  pub each : (l : ℕ) → l < batch_blocks → state t l ≡ encrypt_state key (state q l)
+  pub sized : length t ≡ 32
+  pub each : (l : ℕ) → l < 16 → state t l ≡ encrypt_state key (state q l)
 
 abbrev pub Transposing : ℕ → Planes → Planes → Type 0
 Transposing s a b = Transposed a b
@@ -65,7 +65,7 @@ half q i k =
     + column k (get_or q i 0) (get_or q (8 + i) 0) (get_or q (16 + i) 0) (get_or q (24 + i) 0)
 
 pub record Gathered (n : ℕ) (q t : List ℕ) : Type 0 where
-  pub sized : length t ≡ state_planes
+  pub sized : length t ≡ 32
   pub even-first : (i : ℕ) → i < n → get_or t (4 * i) 0 ≡ half q i 4
   pub even-second : (i : ℕ) → i < n → get_or t (4 * i + 1) 0 ≡ half q i 0
   pub odd-first : (i : ℕ) → i < n → get_or t (4 * i + 2) 0 ≡ half q i 5
@@ -78,22 +78,22 @@ word_bytes (suc n) q = word_bytes n q ++ bytes 8 (get_or q n 0)
 
 -- Block m of a list of bytes.
 abbrev pub block_at : List ℕ → ℕ → List ℕ
-block_at l m = take block_size (drop (block_size * m) l)
+block_at l m = take 16 (drop (16 * m) l)
 
 -- The bytes of the sixteen states.
 pub record Unsliced (q l : List ℕ) : Type 0 where
-  pub sized : length l ≡ batch_size
-  pub each : (m : ℕ) → m < batch_blocks → block_at l m ≡ block_of (state q (lane_of m))
+  pub sized : length l ≡ 256
+  pub each : (m : ℕ) → m < 16 → block_at l m ≡ block_of (state q (lane_of m))
 
 -- Sixteen blocks, encrypted.
 pub record Blocks (key : List ℕ) (f : ℕ → List ℕ) (l : List ℕ) : Type 0 where
-  pub sized : length l ≡ batch_size
-  pub each : (m : ℕ) → m < batch_blocks → block_at l m ≡ encrypt key (f m)
+  pub sized : length l ≡ 256
+  pub each : (m : ℕ) → m < 16 → block_at l m ≡ encrypt key (f m)
 
 -- The counter blocks of a nonce from a block count on, and those of which the first is the block of zeros.
 abbrev pub counters_of : (nonce : List ℕ) (count : ℕ) → ℕ → List ℕ
 counters_of nonce count m = nonce ++ bytes 4 (count + m)
 
 abbrev pub front_of : (nonce : List ℕ) (count : ℕ) → ℕ → List ℕ
-front_of nonce count zero = replicate block_size 0
+front_of nonce count zero = replicate 16 0
 front_of nonce count (suc m) = nonce ++ bytes 4 (count + suc m)

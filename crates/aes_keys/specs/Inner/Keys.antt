@@ -5,12 +5,11 @@
 use Rattle.std.specs.Prelude.{◌≡◌, List, [], ◌∷◌, ◌++◌, ℕ, zero, suc, ◌+◌, ◌*◌, ◌-◌, ◌/◌, ◌%◌, ◌<◌, ◌≤◌, length, get_or, take, drop}
 use Rattle.octets.specs.Octets.{bytes}
 use Rattle.aes.specs.Aes.{Nr, key_expansion, KeySize}
-use Rattle.aes_rows.specs.Rows.{state_planes}
 use Rattle.aes_rows.specs.Blocks.{column, KeyPlanes}
 
 -- The layout: the planes of 15 round keys, then Nr.
 abbrev pub rounds_at : ℕ
-rounds_at = state_planes * 15
+rounds_at = 32 * 15
 
 abbrev pub size : ℕ
 size = rounds_at + 1
@@ -21,12 +20,12 @@ packed a b c d = (((a * 0x10000 + b) * 0x10000 + c) * 0x10000 + d) * 0x101
 
 -- Each of the sixteen blocks has these four columns.
 pub record Filled (w0 w1 w2 w3 : ℕ) (q : List ℕ) : Type 0 where
-  pub sized : length q ≡ state_planes
+  pub sized : length q ≡ 32
   pub each : (m c : ℕ) → m < 16 → c < 4 → column q m c ≡ get_or (w0 ∷ w1 ∷ w2 ∷ w3 ∷ []) c 0
 
 -- The planes of round key r.
 abbrev pub planes_at : List ℕ → ℕ → List ℕ
-planes_at ctx r = take state_planes (drop (state_planes * r) ctx)
+planes_at ctx r = take 32 (drop (32 * r) ctx)
 
 -- The bytes of the first n words of the key schedule, as block 0 has them.
 unfoldable pub key_bytes : ℕ → List ℕ → List ℕ
