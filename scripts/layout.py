@@ -1,7 +1,6 @@
 #!/usr/bin/env python3
 # SPDX-License-Identifier: MIT
-"""Finds what should stand in one place only: numbers and names of a layout outside the crate that owns it (layout.txt), and
-long chains of `.before` in a proof outside a named point.
+"""Finds what should stand in one place only: numbers and names of a layout outside the crate that owns it (layout.txt).
 
     scripts/layout.py [CRATE..]     shows each such place
 
@@ -16,10 +15,6 @@ sys.path.insert(0, str(Path(__file__).resolve().parent))
 import sources
 from sources import CRATES, ROOT
 
-LONGEST = 3     # so many `.before` in a row need no name
-CHAIN = re.compile(r"(?:\.before\b\s*){%d,}" % (LONGEST + 1))
-POINT = re.compile(r"^abbrev (to-\S+) :.*\n(?:[ \t].*\n)*^\1 .*(?:\n[ \t]+\S.*)*", re.M)
-
 
 def places(text, pattern):
     for match in pattern.finditer(text):
@@ -29,14 +24,6 @@ def places(text, pattern):
 def proofs(crate):
     for file in sorted((CRATES / crate / "proofs").rglob("*.antt")):
         yield file, sources.plain_antt(file.read_text())
-
-
-def chains(crate):
-    """Chains of `.before` that are too long, outside the lines that name a point of the program."""
-    for file, text in proofs(crate):
-        text = POINT.sub(lambda match: "\n" * match.group(0).count("\n"), text)
-        for line, found in places(text, CHAIN):
-            yield file, line, f"{found.count('.before')} times `.before` in a row"
 
 
 def rules():
@@ -87,7 +74,7 @@ def unknown():
                 yield f"layout.txt: crate {owner} has no `{word}`"
 
 
-KINDS = (("long chains", chains), ("layout numbers", numbers), ("layout names", names))
+KINDS = (("layout numbers", numbers), ("layout names", names))
 
 
 def counts():

@@ -316,8 +316,8 @@ class Program:
 
 
 def programs(crate, file):
-    """The wrong programs of an edit. Each begins with a line `# program: LABEL`; with no such line the whole edit is one, and the
-    file's name is its label. What stands on other lines than `file:`, `old:` and `new:` is a comment, as for `rt`."""
+    """The wrong programs of an edit, its file's name the label; in an edit of several each begins with a line `# program: LABEL`.
+    What stands on other lines than `file:`, `old:` and `new:` is a comment, as for `rt`."""
     found, where, old = [Program(crate, file.stem, file)], "", ""
     for line in file.read_text().splitlines():
         if line.startswith("# program: "):
@@ -335,8 +335,8 @@ def programs(crate, file):
     return found
 
 
-def all_programs():
-    """Every wrong program, in the order of crates.txt."""
+def all_programs(several=False):
+    """Every wrong program that has an edit to itself, in the order of crates.txt; or those that an edit of several holds."""
     for crate in crates():
         for file in sorted((CRATES / crate / "must-fail").glob("*.edit")):
-            yield from programs(crate, file)
+            yield from (program for program in programs(crate, file) if program.grouped == several)
