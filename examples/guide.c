@@ -732,7 +732,7 @@ static void threads(void)
 
     make_with(shared.store, sizeof shared.store, KID, 1);
     expect(pthread_attr_init(&small) == 0, "attributes of a thread");
-    (void)pthread_attr_setstacksize(&small, 16384); /* as the guide says; where the system wants more, it has more */
+    (void)pthread_attr_setstacksize(&small, 32768); /* as the guide says; where the system wants more, it has more */
     for (int i = 0; i < THREADS; i++)
         expect(pthread_create(&ids[i], &small, sender, NULL) == 0, "a thread");
     for (int i = 0; i < THREADS; i++)
