@@ -62,7 +62,14 @@ pub fn check_begin(
     if !store::is_sound(store) {
         return STORE_INVALID;
     }
-    let Some(Header { kid, ctr, length: n }) = header::read_header(bytes) else {
+    let Some(
+        Header {
+            kid,
+            ctr,
+            length: n,
+        },
+    ) = header::read_header(bytes)
+    else {
         return HEADER_INVALID;
     };
     let Some(i) = store::find_near(store, kid, place) else {

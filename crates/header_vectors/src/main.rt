@@ -156,7 +156,13 @@ fn needs(room: &mut [u8], kid: u64, ctr: u64, n: usize) -> bool {
 // Whether kid, ctr and the length n are read from the front of the bytes.
 fn reads(bytes: &[u8], kid: u64, ctr: u64, n: usize) -> bool {
     match header::read_header(bytes) {
-        Some(Header { kid: k, ctr: c, length: m }) => k.0 == kid && c.0 == ctr && m == n,
+        Some(
+            Header {
+                kid: k,
+                ctr: c,
+                length: m,
+            },
+        ) => k.0 == kid && c.0 == ctr && m == n,
         None => false,
     }
 }

@@ -111,7 +111,14 @@ pub fn open(
     if !store::is_sound(store) {
         return refused(STORE_INVALID);
     }
-    let Some(Header { kid, ctr, length: n }) = header::read_header(frame) else {
+    let Some(
+        Header {
+            kid,
+            ctr,
+            length: n,
+        },
+    ) = header::read_header(frame)
+    else {
         return refused(HEADER_INVALID);
     };
     let Some(i) = store::find_near(store, kid, place) else {

@@ -84,7 +84,13 @@ pub extern "C" fn sframe_read_header(
     ensures length_after { length.new ≡ read_length (read_header bytes.now) }
 {
     match header::read_header(bytes) {
-        Some(Header { kid: k, ctr: c, length: n }) => {
+        Some(
+            Header {
+                kid: k,
+                ctr: c,
+                length: n,
+            },
+        ) => {
             *kid = k.0;
             *ctr = c.0;
             *length = n;
