@@ -1,5 +1,6 @@
 -- SPDX-License-Identifier: MIT
 -- Walks over the records of a store, one turn each, over plain variables. Assumes nothing.
+use Rattle.std.specs.Prelude.{Option, Some, None}
 use mathlib.Core.Path.{◌≡◌, refl, sym, ◌∙◌, ap, ap₂}
 use mathlib.Core.Bool.{Bool, true, false, not}
 use mathlib.Core.List.{List, [], ◌∷◌}
@@ -21,8 +22,6 @@ use Rattle.answers.proofs.Basics.{Two, yes', no', two, told-false, told-true}
 use Rattle.track_record.proofs.Records.{holds-some, holds-own, empty-is}
 use Rattle.tracks.proofs.Stores.{length-right}
 use Rattle.tracks.proofs.Tables.{get-here, get-there, alone-get}
-use Rattle.tracks.specs.declared.Place.{Place}
-use Rattle.tracks.specs.declared.Place.TheVariants.{At, Nowhere}
 
 -- ---- lengths
 
@@ -92,7 +91,7 @@ module _ (s : List ℕ) (at end : ℕ) (whole : length s % record_size ≡ 0) (i
   find-go id r e t i = i ∙ ap (get id) records-turn ∙ get-there id (decode (take (end - at) (drop at s))) (decode_all ((length s - end) / record_size) (drop end s)) (sym e ∙ t)
 
   pub find-here : (id : TrackId) (r : Bool) → r ≡ holds id (decode (take (end - at) (drop at s))) → r ≡ true
-      → get id (decode_all (length s / record_size) s) ≡ get id (decode_all ((length s - at) / record_size) (drop at s)) → FoundIn (At (at / record_size)) id (decode_all (length s / record_size) s)
+      → get id (decode_all (length s / record_size) s) ≡ get id (decode_all ((length s - at) / record_size) (drop at s)) → FoundIn (Some (at / record_size)) id (decode_all (length s / record_size) s)
   find-here id r e t i =
       let n = decode-all-length (length s / record_size) s in
       let low : at / record_size < length s / record_size = omega arith in
@@ -159,12 +158,12 @@ module _ (x : TrackRecord) (rs : List TrackRecord) (v : TrackId) (r : Bool) (e :
   alone-is : alone x rs ≡ is_empty (get v rs)
   alone-is = alone-get v x rs (ap (λ (k : TrackId). holds k x) q ∙ holds-own x (sym e ∙ t))
 
-  pub alone-nowhere : (p : Place) → FoundIn p v rs → p ≡ Nowhere → true ≡ alone x rs
+  pub alone-nowhere : (p : Option ℕ) → FoundIn p v rs → p ≡ None → true ≡ alone x rs
   alone-nowhere p f w = let g : get v rs ≡ empty = rw w at f in sym (alone-is ∙ ap is_empty g)
 
-  pub alone-found : (p : Place) (i : ℕ) → FoundIn p v rs → p ≡ At i → false ≡ alone x rs
+  pub alone-found : (p : Option ℕ) (i : ℕ) → FoundIn p v rs → p ≡ Some i → false ≡ alone x rs
   alone-found p i f w =
-      let g : FoundIn (At i) v rs = rw w at f in
+      let g : FoundIn (Some i) v rs = rw w at f in
       sym (alone-is ∙ ap is_empty g.1 ∙ holds-some v (get_or rs i empty) g.2)
 
 -- ---- the whole store
@@ -201,7 +200,7 @@ module _ (s : List ℕ) (at end : ℕ) (whole : length s % record_size ≡ 0) (i
       let place : at / record_size * record_size ≡ at = omega arith in
       decode-at (length s / record_size) s (at / record_size) low ∙ ap (λ (k : ℕ). decode (take record_size (drop k s))) place ∙ ap decode (sym (part-is s at end whole inside even next))
 
-  pub free-here : (r : Bool) → r ≡ is_empty (decode (take (end - at) (drop at s))) → r ≡ true → NoneFree s at → FreeIn (At (at / record_size)) (decode_all (length s / record_size) s)
+  pub free-here : (r : Bool) → r ≡ is_empty (decode (take (end - at) (drop at s))) → r ≡ true → NoneFree s at → FreeIn (Some (at / record_size)) (decode_all (length s / record_size) s)
   free-here r e t n =
       let l = decode-all-length (length s / record_size) s in
       (omega arith, ap is_empty record_is ∙ sym e ∙ t, n)
