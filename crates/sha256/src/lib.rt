@@ -5,6 +5,7 @@
 mod constants;
 
 ghost use Rattle.std.specs.Prelude.{◌≡◌, ℕ, ◌+◌, ◌%◌, ◌<◌, ◌≤◌, List, [], ◌++◌, length, take};
+ghost use Rattle.std.proofs.Common.{rules};
 ghost use Rattle.sha2_common.specs.Sha2.{Ch, Maj, Σ0, Σ1, σ0, σ1, add, words, schedule, round, rounds, adds, compress, run, joined, zeros, hash};
 ghost use Rattle.sha2_common.specs.Sizes.{sha256};
 ghost use Rattle.sha2_common.specs.Limits.{maximum};
@@ -13,6 +14,7 @@ ghost use Rattle.sha2_common.specs.Running.{left, room_of, fresh, fed, finished}
 ghost use Rattle.sha256.specs.Inner.State.{words256, state256, Fed256};
 
 use constants::K;
+use sha2_common::Hash;
 use octets::{copy, read_be32, write_be32, write_be64};
 use std::num::wrapping_add_u32;
 
@@ -347,5 +349,25 @@ impl Sha256 {
         tail[have] = 0x80;
         write_be64(&mut tail[end - 8..], self.len * 8);
         digest(blocks(value, &tail[..end]))
+    }
+}
+
+impl Hash<64, 32> for Sha256 {
+    ghost params = { sha256 };
+
+    ghost state = { state256 };
+
+    ghost sizes = { Prim.search rules };
+
+    fn new() -> Sha256 {
+        Sha256::new()
+    }
+
+    fn feed(self, s: &[u8]) -> Sha256 {
+        Sha256::feed(self, s)
+    }
+
+    fn finish(self) -> [u8; 32] {
+        Sha256::finish(self)
     }
 }

@@ -5,6 +5,7 @@
 mod constants;
 
 ghost use Rattle.std.specs.Prelude.{◌≡◌, ℕ, ◌+◌, ◌%◌, ◌<◌, ◌≤◌, List, [], ◌++◌, length, take};
+ghost use Rattle.std.proofs.Common.{rules};
 ghost use Rattle.sha2_common.specs.Sha2.{Ch, Maj, Σ0, Σ1, σ0, σ1, add, words, schedule, round, rounds, adds, compress, run, joined, zeros, hash};
 ghost use Rattle.sha2_common.specs.Sizes.{sha512};
 ghost use Rattle.sha2_common.specs.Limits.{maximum};
@@ -13,6 +14,7 @@ ghost use Rattle.sha2_common.specs.Running.{left, room_of, fresh, fed, finished}
 ghost use Rattle.sha512.specs.Inner.State.{words512, state512, Fed512};
 
 use constants::K;
+use sha2_common::Hash;
 use octets::{copy, read_be64, write_be32, write_be64};
 use std::num::wrapping_add_u64;
 
@@ -347,5 +349,25 @@ impl Sha512 {
         tail[have] = 0x80;
         write_be64(&mut tail[end - 8..], self.len * 8);
         digest(blocks(value, &tail[..end]))
+    }
+}
+
+impl Hash<128, 64> for Sha512 {
+    ghost params = { sha512 };
+
+    ghost state = { state512 };
+
+    ghost sizes = { Prim.search rules };
+
+    fn new() -> Sha512 {
+        Sha512::new()
+    }
+
+    fn feed(self, s: &[u8]) -> Sha512 {
+        Sha512::feed(self, s)
+    }
+
+    fn finish(self) -> [u8; 64] {
+        Sha512::finish(self)
     }
 }
