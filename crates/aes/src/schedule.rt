@@ -28,8 +28,7 @@ pub fn round_constant(r: &[u8; 10], j: usize) -> u32
 
 // Writes the key as the first words.
 pub fn take_key(x: &mut Words, key: &[u8])
-    requires x_len { length x.old ≡ max_words }
-    requires key_size { KeySize (length key.now) }
+    requires { KeySize (length key.now) }
     ensures { (length x.new ≡ max_words) × (take (Nk key.now) x.new ≡ expansion (Nk key.now) key.now (Nk key.now)) }
 {
     let nk = key.len() / 4;
@@ -76,7 +75,6 @@ fn transform<S: SubWord>(s: &S, rc: &[u8; 10], nk: usize, j: usize, m: usize, w:
 
 // Writes the words behind the key, two at a time: as nk is even, the second of two is a plain sum.
 fn extend<S: SubWord>(s: &S, x: &mut Words, key: &[u8])
-    requires x_len { length x.old ≡ max_words }
     requires key_size { KeySize (length key.now) }
     requires x_value { take (Nk key.now) x.old ≡ expansion (Nk key.now) key.now (Nk key.now) }
     ensures { (length x.new ≡ max_words) × (take (4 * (Nr key.now + 1)) x.new ≡ key_expansion key.now) }

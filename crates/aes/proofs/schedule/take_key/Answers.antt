@@ -1,6 +1,7 @@
 -- SPDX-License-Identifier: MIT
 -- `aes::schedule::take_key` meets its contract.
 -- Assumes nothing.
+use borrow.Author.Rules.{rules}
 use mathlib.Core.Path.{◌≡◌, refl, ap, ◌∙◌}
 use Prim.Native.Nat.{◌*◌}
 use native.Mathlib.Omega.{arith}
@@ -13,7 +14,7 @@ use Rattle.aes.proofs.schedule.take_key.Goals as goal
 
 pub loop-i-init : goal.loop-i-init
 unfolding expansion
-loop-i-init c = (c.requires.x_len, refl)
+loop-i-init c = (search rules, refl)
 
 pub loop-i-preserved : goal.loop-i-preserved
 loop-i-preserved c =
