@@ -3,7 +3,7 @@ use Rattle.bitslice.specs.Lanes.{lane_byte}
 use Rattle.bitslice.proofs.SBox.{by_parts}
 use Rattle.bitslice.proofs.Spreads.{shifts}
 use Rattle.aes_keys.proofs.Words.{sub_word_lem}
-use Rattle.aes_keys.proofs.schedule.sub_word.Goals as goal
+use Rattle.aes_keys.proofs.schedule.CircuitSubWord.sub_word.Goals as goal
 
 pub returns : goal.returns
 unfolding lane_byte
