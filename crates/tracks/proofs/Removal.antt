@@ -2,7 +2,7 @@
 -- What Make and Remove answer, cause by cause, over plain variables. Assumes nothing.
 use mathlib.Core.Path.{◌≡◌, refl, sym, ◌∙◌, ap}
 use mathlib.Core.Bool.{Bool, true, false, not}
-use mathlib.Core.List.{List, []}
+use mathlib.Core.List.{List}
 use Prim.Native.Nat.{ℕ}
 use native.Mathlib.Omega.{arith}
 use lib.ListN.{length, get_or, set, replicate}
@@ -15,9 +15,9 @@ use Rattle.track_record.specs.declared.Held.{Held}
 use Rattle.track_record.specs.declared.Held.TheVariants as Variants
 use Rattle.track_record.specs.declared.Kind.{Kind}
 use Rattle.track_record.specs.Record as Records
-use Rattle.tracks.specs.Calls.{stored, make, remove_causes, remove_at, remove}
+use Rattle.tracks.specs.Calls.{make, remove_causes, remove_at, remove}
 use Rattle.tracks.specs.Tracks.{length_right, encode_all, records, sound}
-use Rattle.tracks.specs.Table.{get, put, apart}
+use Rattle.tracks.specs.Table.{get, apart}
 use Rattle.tracks.specs.Inner.Places.{FoundIn}
 use Rattle.tracks.specs.declared.Place.{Place}
 use Rattle.tracks.specs.declared.Place.TheVariants.{At, Nowhere}
