@@ -59,10 +59,8 @@ fn take_steps(suite: Suite, base: &[u8], steps: u64, out: &mut [u8])
         return;
     }
     next_key(suite, base, out);
-    let mut i: u64 = 1;
-    while i < steps {
+    for _ in 1..steps {
         step(suite, out);
-        i += 1;
     }
 }
 
