@@ -12,7 +12,7 @@ use answers::{
 };
 use header::Kid;
 use key_record::Role;
-use suites::sizes::{Aes128CtrHmacSha256Tag32, Found};
+use suites::sizes::Aes128CtrHmacSha256Tag32;
 
 // Whether no key of that role and suite is added: the suite with tags of 4 bytes is for receiving alone.
 fn is_barred(role: Role, suite: u64) -> bool
@@ -32,7 +32,7 @@ pub fn add(store: &mut [u8], role: Role, kid: Kid, suite: u64, base: &[u8]) -> u
     if !store::is_sound(store) {
         return STORE_INVALID;
     }
-    let Found::Known(known) = suites::sizes::find(suite) else {
+    let Some(known) = suites::sizes::find(suite) else {
         return SUITE_UNKNOWN;
     };
     if is_barred(role, suite) {

@@ -11,10 +11,8 @@ use answers::{
     STORE_FULL, STORE_INVALID, SUITE_UNKNOWN,
 };
 use secure_objects::{KeyId, MAX_NAME};
-use suites::Found;
 use suites::sizes::Aes128CtrHmacSha256Tag32;
 use track_record::Role;
-use tracks::Place;
 
 // Whether no track of that role and suite is added: the suite with tags of 4 bytes is for receiving alone.
 fn is_barred(role: Role, suite: u64) -> bool
@@ -34,7 +32,7 @@ pub fn add(store: &mut [u8], role: Role, name: &[u8], id: KeyId, suite: u64, bas
     if !tracks::is_sound(store) {
         return STORE_INVALID;
     }
-    let Found::Known(known) = suites::sizes::find(suite) else {
+    let Some(known) = suites::sizes::find(suite) else {
         return SUITE_UNKNOWN;
     };
     if is_barred(role, suite) {
@@ -49,10 +47,10 @@ pub fn add(store: &mut [u8], role: Role, name: &[u8], id: KeyId, suite: u64, bas
     if MAX_NAME < name.len() {
         return INPUT_TOO_LONG;
     }
-    let Place::Nowhere = tracks::find(store, name, id) else {
+    let None = tracks::find(store, name, id) else {
         return KID_HELD;
     };
-    let Place::At(i) = tracks::find_free(store) else {
+    let Some(i) = tracks::find_free(store) else {
         return STORE_FULL;
     };
     tracks::fill_at(store, i, role, known, name, id, base);

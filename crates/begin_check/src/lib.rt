@@ -4,7 +4,7 @@
 
 ghost use Rattle.std.specs.Prelude.{◌≡◌, true, false, [], ◌≤◌, length};
 ghost use Rattle.header.specs.Header.{max_header};
-ghost use Rattle.header.specs.declared.Reading.TheVariants.{Header};
+ghost use Rattle.header.specs.Header.{header_of};
 ghost use Rattle.key_record.specs.Layout.{decode};
 ghost use Rattle.key_record.specs.Record.{is_empty};
 ghost use Rattle.key_record.specs.Inner.Rows.{Row};
@@ -15,9 +15,8 @@ use answers::{
     DONE, HEADER_INVALID, INPUT_TOO_LONG, KID_MISSING, ROLE_REFUSED, ROOM_SHORT, STORE_INVALID,
     too_long,
 };
-use header::{Ctr, Kid, Reading};
+use header::{Ctr, Header, Kid};
 use pieces::{CHECKING, STATE_SIZE};
-use store::Place;
 
 // Begins to check a frame, whose header of n bytes has been read, with the record that holds its KID.
 fn begin_with(
@@ -31,8 +30,8 @@ fn begin_with(
     state: &mut [u8],
 ) -> u32
     requires { (Row row.now) × (is_empty (decode row.now) ≡ false) × (n ≤ max_header) × (n ≤ length bytes.now) }
-    ensures value { result ≡ (check_at sframe true (Header kid ctr n) (decode row.now) [] metadata.now bytes.now announced state.old).number }
-    ensures state_after { state.new ≡ (check_at sframe true (Header kid ctr n) (decode row.now) [] metadata.now bytes.now announced state.old).state }
+    ensures value { result ≡ (check_at sframe true (header_of kid ctr n) (decode row.now) [] metadata.now bytes.now announced state.old).number }
+    ensures state_after { state.new ≡ (check_at sframe true (header_of kid ctr n) (decode row.now) [] metadata.now bytes.now announced state.old).state }
 {
     if !key_record::row::is_receiving(row) {
         return ROLE_REFUSED;
@@ -63,10 +62,17 @@ pub fn check_begin(
     if !store::is_sound(store) {
         return STORE_INVALID;
     }
-    let Reading::Header(kid, ctr, n) = header::read_header(bytes) else {
+    let Some(
+        Header {
+            kid,
+            ctr,
+            length: n,
+        },
+    ) = header::read_header(bytes)
+    else {
         return HEADER_INVALID;
     };
-    let Place::At(i) = store::find_near(store, kid, place) else {
+    let Some(i) = store::find_near(store, kid, place) else {
         return KID_MISSING;
     };
     begin_with(

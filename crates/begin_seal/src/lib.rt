@@ -20,7 +20,6 @@ use answers::{
 };
 use header::{Kid, MAX_HEADER};
 use pieces::{SEALING, STATE_SIZE};
-use store::Place;
 
 // The length of the header of a sending record's next frame.
 fn header_length(row: &[u8], kid: Kid) -> usize
@@ -97,7 +96,7 @@ pub fn seal_begin(
     if !store::is_sound(store) {
         return refused(STORE_INVALID);
     }
-    let Place::At(i) = store::find_near(store, kid, place) else {
+    let Some(i) = store::find_near(store, kid, place) else {
         return refused(KID_MISSING);
     };
     let number = judge(

@@ -6,7 +6,7 @@
 
 ghost use Rattle.std.specs.Prelude.{◌≡◌, ◌≤◌, ◌<◌, length};
 
-use header::{Ctr, Kid, Reading, Written};
+use header::{Ctr, Header, Kid};
 use std::io::{self, Read};
 
 // The most bytes of standard input that are judged.
@@ -129,7 +129,7 @@ fn writes(room: &mut [u8], kid: u64, ctr: u64, want: &[u8]) -> bool {
     if room.len() < n {
         return false;
     }
-    let Written::Length(k) = header::write_header(Kid(kid), Ctr(ctr), room) else {
+    let Some(k) = header::write_header(Kid(kid), Ctr(ctr), room) else {
         return false;
     };
     if k != n {
@@ -147,7 +147,7 @@ fn needs(room: &mut [u8], kid: u64, ctr: u64, n: usize) -> bool {
         return false;
     }
     let short = n - 1;
-    let Written::NoRoom = header::write_header(Kid(kid), Ctr(ctr), &mut room[..short]) else {
+    let None = header::write_header(Kid(kid), Ctr(ctr), &mut room[..short]) else {
         return false;
     };
     untouched(room)
@@ -156,8 +156,14 @@ fn needs(room: &mut [u8], kid: u64, ctr: u64, n: usize) -> bool {
 // Whether kid, ctr and the length n are read from the front of the bytes.
 fn reads(bytes: &[u8], kid: u64, ctr: u64, n: usize) -> bool {
     match header::read_header(bytes) {
-        Reading::Header(k, c, m) => k.0 == kid && c.0 == ctr && m == n,
-        Reading::Invalid => false,
+        Some(
+            Header {
+                kid: k,
+                ctr: c,
+                length: m,
+            },
+        ) => k.0 == kid && c.0 == ctr && m == n,
+        None => false,
     }
 }
 
@@ -184,7 +190,7 @@ fn agrees(kid: u64, ctr: u64, bytes: &[u8], n: usize) -> bool {
 // Whether kid and ctr are read from the first n of these bytes, and written in fewer.
 fn longer(kid: u64, ctr: u64, bytes: &[u8], n: usize) -> bool {
     let mut room = [PATTERN; 32];
-    let Written::Length(k) = header::write_header(Kid(kid), Ctr(ctr), &mut room) else {
+    let Some(k) = header::write_header(Kid(kid), Ctr(ctr), &mut room) else {
         return false;
     };
     k < n && reads_back(kid, ctr, bytes, n)
@@ -226,8 +232,8 @@ fn refuses(bytes: &[u8], n: usize) -> bool {
         return false;
     }
     match header::read_header(&bytes[..n]) {
-        Reading::Header(_, _, _) => false,
-        Reading::Invalid => true,
+        Some(_) => false,
+        None => true,
     }
 }
 

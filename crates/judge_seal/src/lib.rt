@@ -12,7 +12,7 @@ ghost use Rattle.key_record.specs.Inner.Rows.{Row, counter_left};
 ghost use Rattle.judge_seal.specs.Seal.{next_length, causes_of_seal};
 
 use answers::{COUNTER_SPENT, DONE, INPUT_TOO_LONG, ROLE_REFUSED, ROOM_SHORT, too_long};
-use header::{Kid, MAX_HEADER, Written};
+use header::{Kid, MAX_HEADER};
 
 // Writes the header of a sending record's next frame to the front of head.
 pub fn write_next(row: &[u8], kid: Kid, head: &mut [u8]) -> usize
@@ -21,7 +21,7 @@ pub fn write_next(row: &[u8], kid: Kid, head: &mut [u8]) -> usize
     ensures head_after { head.new ≡ header kid.0 (counter_of (decode row.now)) ++ drop result head.old }
 {
     let ctr = key_record::row::next_of(row);
-    let Written::Length(n) = header::write_header(kid, ctr, head) else {
+    let Some(n) = header::write_header(kid, ctr, head) else {
         return 0;
     };
     n

@@ -5,7 +5,7 @@
 
 ghost use Rattle.std.specs.Prelude.{◌≡◌, true, false, [], ◌++◌, ◌+◌, ◌-◌, ◌≤◌, length, take, drop};
 ghost use Rattle.header.specs.Header.{max_header};
-ghost use Rattle.header.specs.declared.Reading.TheVariants.{Header};
+ghost use Rattle.header.specs.Header.{header_of};
 ghost use Rattle.answers.specs.Limits.{max_plaintext, max_metadata};
 ghost use Rattle.suites.specs.Suites.{Nt};
 ghost use Rattle.suites.specs.Derivation.{nonce};
@@ -20,9 +20,8 @@ use answers::{
     Answer, DONE, FRAME_SHORT, HEADER_INVALID, INPUT_TOO_LONG, KID_MISSING, ROLE_REFUSED,
     ROOM_SHORT, STORE_INVALID, TAG_DIFFERS, refused, too_long,
 };
-use header::{Ctr, Kid, Reading};
+use header::{Ctr, Header, Kid};
 use judge_open::Room;
-use store::Place;
 use suites::Suite;
 
 // Decrypts what follows the first n bytes of a frame with the key and salt of a receiving record.
@@ -65,8 +64,8 @@ fn open_with(
     room: &mut [u8],
 ) -> Answer
     requires { (Row row.now) × (is_empty (decode row.now) ≡ false) × (n ≤ max_header) × (n ≤ length frame.now) }
-    ensures number_value { (result.number ≡ (open_at sframe true (Header kid ctr n) (decode row.now) [] [] metadata.now frame.now room.old).number) × (result.length ≡ (open_at sframe true (Header kid ctr n) (decode row.now) [] [] metadata.now frame.now room.old).written) }
-    ensures room_after { room.new ≡ (open_at sframe true (Header kid ctr n) (decode row.now) [] [] metadata.now frame.now room.old).room }
+    ensures number_value { (result.number ≡ (open_at sframe true (header_of kid ctr n) (decode row.now) [] [] metadata.now frame.now room.old).number) × (result.length ≡ (open_at sframe true (header_of kid ctr n) (decode row.now) [] [] metadata.now frame.now room.old).written) }
+    ensures room_after { room.new ≡ (open_at sframe true (header_of kid ctr n) (decode row.now) [] [] metadata.now frame.now room.old).room }
 {
     if !key_record::row::is_receiving(row) {
         return refused(ROLE_REFUSED);
@@ -112,10 +111,17 @@ pub fn open(
     if !store::is_sound(store) {
         return refused(STORE_INVALID);
     }
-    let Reading::Header(kid, ctr, n) = header::read_header(frame) else {
+    let Some(
+        Header {
+            kid,
+            ctr,
+            length: n,
+        },
+    ) = header::read_header(frame)
+    else {
         return refused(HEADER_INVALID);
     };
-    let Place::At(i) = store::find_near(store, kid, place) else {
+    let Some(i) = store::find_near(store, kid, place) else {
         return refused(KID_MISSING);
     };
     let answer = open_with(store::row_at(store, i), kid, ctr, n, metadata, frame, room);

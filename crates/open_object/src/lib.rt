@@ -16,7 +16,6 @@ use answers::{
 };
 use secure_objects::{GroupId, KeyId, OBJECT_CEILING, ObjectId};
 use track_record::{Held, Kind, row};
-use tracks::Place;
 
 // Whether a record of that kind opens.
 fn opens(kind: Kind) -> bool
@@ -117,7 +116,7 @@ pub fn open(
     if !tracks::is_sound(store) {
         return refused(STORE_INVALID);
     }
-    let Place::At(i) = tracks::find(store, name, id) else {
+    let Some(i) = tracks::find(store, name, id) else {
         return refused(KID_MISSING);
     };
     open_with(

@@ -6,7 +6,7 @@ ghost use Rattle.piece_line.specs.State.{at_key, state_size, aad_in, announced_i
 
 use answers::{MAX_METADATA, MAX_PLAINTEXT};
 use header::MAX_HEADER;
-use suites::{Found, Suite};
+use suites::Suite;
 
 // The bytes of a state.
 pub const STATE_SIZE: usize = 168;
@@ -91,17 +91,17 @@ fn counts_fit(state: &[u8]) -> bool
 }
 
 // The suite of a line of a kind, where the state is possible.
-pub fn line_of(state: &[u8], kind: u8) -> Found
+pub fn line_of(state: &[u8], kind: u8) -> Option<Suite>
     ensures { result ≡ line_of kind state.now }
 {
     if state.len() < STATE_SIZE {
-        return Found::Unknown;
+        return None;
     }
     if state[0] != kind {
-        return Found::Unknown;
+        return None;
     }
     if !counts_fit(state) {
-        return Found::Unknown;
+        return None;
     }
     suites::sizes::find(wide(state[SUITE]))
 }

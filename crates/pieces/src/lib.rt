@@ -18,7 +18,7 @@ pub use beginning::begin;
 pub use piece_line::state::{CHECKING, SEALING, STATE_SIZE};
 use piece_line::state::{announced_of, line_of, taken_of};
 use piece_line::{seal_in, tag_of, take_in};
-use suites::{Found, Suite};
+use suites::Suite;
 
 // Whether a piece of n bytes goes past what was announced.
 fn is_past(state: &[u8], n: usize) -> bool
@@ -52,7 +52,7 @@ pub fn seal_piece(state: &mut [u8], piece: &[u8], room: &mut [u8]) -> Answer
     ensures state_after { state.new ≡ (seal_piece state.old piece.now room.old).state }
     ensures room_after { room.new ≡ (seal_piece state.old piece.now room.old).room }
 {
-    let Found::Known(suite) = line_of(state, SEALING) else {
+    let Some(suite) = line_of(state, SEALING) else {
         return refused(STATE_MISMATCH);
     };
     if is_past(state, piece.len()) {
@@ -73,7 +73,7 @@ pub fn seal_end(state: &[u8], room: &mut [u8]) -> Answer
     ensures number_value { (result.number ≡ (seal_end state.now room.old).number) × (result.length ≡ (seal_end state.now room.old).written) }
     ensures room_after { room.new ≡ (seal_end state.now room.old).room }
 {
-    let Found::Known(suite) = line_of(state, SEALING) else {
+    let Some(suite) = line_of(state, SEALING) else {
         return refused(STATE_MISMATCH);
     };
     if is_early(state) {
@@ -96,7 +96,7 @@ pub fn check_piece(state: &mut [u8], piece: &[u8]) -> u32
     ensures value { result ≡ (check_piece state.old piece.now).number }
     ensures state_after { state.new ≡ (check_piece state.old piece.now).state }
 {
-    let Found::Known(suite) = line_of(state, CHECKING) else {
+    let Some(suite) = line_of(state, CHECKING) else {
         return STATE_MISMATCH;
     };
     if is_past(state, piece.len()) {
@@ -120,7 +120,7 @@ fn is_tag(suite: Suite, state: &[u8], tag: &[u8]) -> bool
 pub fn check_end(state: &[u8], tag: &[u8]) -> u32
     ensures { result ≡ check_end state.now tag.now }
 {
-    let Found::Known(suite) = line_of(state, CHECKING) else {
+    let Some(suite) = line_of(state, CHECKING) else {
         return STATE_MISMATCH;
     };
     if is_early(state) {

@@ -17,7 +17,7 @@ use answers::{
 };
 use header::Kid;
 use suites::Suite;
-use suites::sizes::{Aes256GcmSha512, Found};
+use suites::sizes::Aes256GcmSha512;
 
 // The most steps of one walk.
 const MAX_STEPS: u64 = 64;
@@ -99,7 +99,7 @@ pub fn walk(suite: u64, base: &[u8], steps: u64, room: &mut [u8]) -> Answer
     ensures number_value { (result.number ≡ (walk suite base.now steps room.old).number) × (result.length ≡ (walk suite base.now steps room.old).written) }
     ensures room_after { room.new ≡ (walk suite base.now steps room.old).room }
 {
-    let Found::Known(known) = suites::sizes::find(suite) else {
+    let Some(known) = suites::sizes::find(suite) else {
         return refused(SUITE_UNKNOWN);
     };
     let n = walked_size(known, base.len(), steps);

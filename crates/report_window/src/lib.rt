@@ -7,7 +7,6 @@ ghost use Rattle.report_window.specs.Report.{report, reported};
 
 use answers::{DONE, KID_MISSING, ROLE_REFUSED, STORE_INVALID};
 use header::Kid;
-use store::Place;
 
 // What a report answers: its number, and the count.
 #[derive(Clone, Copy)]
@@ -30,7 +29,7 @@ pub fn report(store: &[u8], kid: Kid) -> Counted
     if !store::is_sound(store) {
         return refused(STORE_INVALID);
     }
-    let Place::At(i) = store::find(store, kid) else {
+    let Some(i) = store::find(store, kid) else {
         return refused(KID_MISSING);
     };
     let row = store::row_at(store, i);

@@ -17,7 +17,6 @@ ghost use Rattle.judge_seal.specs.Seal.{causes_of_seal, next_frame, seal};
 
 use answers::{Answer, DONE, KID_MISSING, STORE_INVALID, refused};
 use header::{Kid, MAX_HEADER};
-use store::Place;
 use suites::sizes::Suite;
 
 // Fills out with ciphertext and tag under the key and the next counter of a sending record.
@@ -80,7 +79,7 @@ pub fn seal(
     if !store::is_sound(store) {
         return refused(STORE_INVALID);
     }
-    let Place::At(i) = store::find_near(store, kid, place) else {
+    let Some(i) = store::find_near(store, kid, place) else {
         return refused(KID_MISSING);
     };
     let number = judge_seal::judge(

@@ -1,9 +1,7 @@
 -- SPDX-License-Identifier: MIT
 -- What the functions exported for tests take, and what they answer. Assumes nothing.
-use Rattle.std.specs.Prelude.{◌≡◌, Bool, true, false, List, ◌⊎◌, ℕ, ◌+◌, ◌-◌, ◌%◌, ◌≤◌, length}
+use Rattle.std.specs.Prelude.{Option, Some, None, ◌≡◌, Bool, true, false, List, ◌⊎◌, ℕ, ◌+◌, ◌-◌, ◌%◌, ◌≤◌, length}
 use Rattle.suites.specs.declared.sizes.Suite.{Suite}
-use Rattle.suites.specs.declared.sizes.Found.{Found}
-use Rattle.suites.specs.declared.sizes.Found.TheVariants.{Known, Unknown}
 use Rattle.suites.specs.Suites.{Nk, Nn, Nt}
 
 -- An input that is taken is answered by its work; any other is answered 1, and nothing is changed.
@@ -11,9 +9,9 @@ abbrev pub Judged : (answer : ℕ) (Taken Done Kept : Type 0) (r : ℕ) → Type
 Judged answer Taken Done Kept r = ((r ≡ answer) × Taken × Done) ⊎ ((r ≡ 1) × (Taken → ⊥) × Kept)
 
 -- Of a known suite the one, of an unknown number the other.
-abbrev pub For : Found → (Suite → Type 0) → (Unsuited : Type 0) → Type 0
-For (Known s) P Unsuited = P s
-For Unknown P Unsuited = Unsuited
+abbrev pub For : Option Suite → (Suite → Type 0) → (Unsuited : Type 0) → Type 0
+For (Some s) P Unsuited = P s
+For None P Unsuited = Unsuited
 
 -- A test of the code tells whether a fact holds.
 pub record Tells (A : Type 0) (b : Bool) : Type 0 where

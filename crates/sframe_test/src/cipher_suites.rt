@@ -10,7 +10,7 @@ ghost use Rattle.sframe_test.specs.Judged.{Judged, For, DeriveTakes, EncryptTake
 
 use crate::judge::{NN, parts_taken};
 use header::Kid;
-use suites::{Found, Suite};
+use suites::Suite;
 
 // The longest base key.
 const MAX_BASE: usize = 64;
@@ -41,8 +41,8 @@ pub fn sframe_test_derive(suite: u64, base: &[u8], kid: u64, key: &mut [u8], sal
     ensures { For (suite_of suite) (λ s. Judged 0 (DeriveTakes s base.now key.old salt.old) ((key.new ≡ sframe_key s base.now kid) × (salt.new ≡ sframe_salt s base.now kid)) ((key.new ≡ key.old) × (salt.new ≡ salt.old)) result) ((result ≡ 1) × (key.new ≡ key.old) × (salt.new ≡ salt.old)) }
 {
     match suites::sizes::find(suite) {
-        Found::Known(s) => derive_known(s, base, kid, key, salt),
-        Found::Unknown => 1,
+        Some(s) => derive_known(s, base, kid, key, salt),
+        None => 1,
     }
 }
 
@@ -88,8 +88,8 @@ pub fn sframe_test_suite_encrypt(
     ensures { For (suite_of suite) (λ s. Judged 0 (EncryptTakes s key.now nonce.now header.now metadata.now plaintext.now out.old) (out.new ≡ encrypt s key.now nonce.now (header.now ++ metadata.now) plaintext.now) (out.new ≡ out.old) result) ((result ≡ 1) × (out.new ≡ out.old)) }
 {
     match suites::sizes::find(suite) {
-        Found::Known(s) => encrypt_known(s, key, nonce, header, metadata, plaintext, out),
-        Found::Unknown => 1,
+        Some(s) => encrypt_known(s, key, nonce, header, metadata, plaintext, out),
+        None => 1,
     }
 }
 
@@ -138,7 +138,7 @@ pub fn sframe_test_suite_decrypt(
     ensures { For (suite_of suite) (λ s. Judged (pick (is_plain (decrypt s key.now nonce.now (header.now ++ metadata.now) sealed.now)) 0 13) (DecryptTakes s key.now nonce.now header.now metadata.now sealed.now out.old) (out.new ≡ room_after (decrypt s key.now nonce.now (header.now ++ metadata.now) sealed.now) out.old) (out.new ≡ out.old) result) ((result ≡ 1) × (out.new ≡ out.old)) }
 {
     match suites::sizes::find(suite) {
-        Found::Known(s) => decrypt_known(s, key, nonce, header, metadata, sealed, out),
-        Found::Unknown => 1,
+        Some(s) => decrypt_known(s, key, nonce, header, metadata, sealed, out),
+        None => 1,
     }
 }

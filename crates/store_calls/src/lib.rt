@@ -8,7 +8,6 @@ ghost use Rattle.store_calls.specs.Calls.{make, remove, find, found};
 use answers::{DONE, KID_MISSING, ROLE_REFUSED, STORE_INVALID};
 use header::Kid;
 use key_record::{Kind, row};
-use store::Place;
 
 // What a search by a caller answers: its number, and the place.
 #[derive(Clone, Copy)]
@@ -37,7 +36,7 @@ pub fn remove(store: &mut [u8], kid: Kid, place: usize) -> u32
     if !store::is_sound(store) {
         return STORE_INVALID;
     }
-    let Place::At(i) = store::find_near(store, kid, place) else {
+    let Some(i) = store::find_near(store, kid, place) else {
         return KID_MISSING;
     };
     let kind = row::kind_of(store::row_at(store, i));
@@ -65,7 +64,7 @@ pub fn locate(store: &[u8], kid: Kid) -> Located
             place: 0,
         };
     }
-    let Place::At(i) = store::find(store, kid) else {
+    let Some(i) = store::find(store, kid) else {
         return Located {
             number: KID_MISSING,
             place: 0,

@@ -6,7 +6,7 @@
 ghost use Rattle.std.specs.Prelude.{◌≡◌, ◌≤◌, ◌<◌, length};
 ghost use Rattle.std.specs.Counts.{IsPrefixLen};
 
-use header::{Ctr, Kid, Written};
+use header::{Ctr, Kid};
 use sframe_test::cipher_suites::{
     sframe_test_derive, sframe_test_suite_decrypt, sframe_test_suite_encrypt,
 };
@@ -269,7 +269,7 @@ fn seals(
     plaintext: &[u8],
     frame: &[u8],
 ) -> bool {
-    let Written::Length(n) = header::write_header(Kid(kid), Ctr(ctr), room) else {
+    let Some(n) = header::write_header(Kid(kid), Ctr(ctr), room) else {
         return false;
     };
     if frame.len() < n {

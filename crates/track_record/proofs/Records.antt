@@ -1,5 +1,6 @@
 -- SPDX-License-Identifier: MIT
 -- What a record gives, and that it stays in range as it changes. Assumes nothing.
+use Rattle.std.specs.Prelude.{Some}
 use mathlib.Core.Path.{◌≡◌, refl, sym, ◌∙◌, ap}
 use mathlib.Core.Bool.{Bool, true, false, false≢true}
 use mathlib.Core.List.{List}
@@ -12,7 +13,6 @@ use Rattle.octets.specs.Octets.{Octets, same}
 use Rattle.octets.proofs.Laws.{same_refl, same-eq, octets-replicate}
 use Rattle.answers.proofs.Basics.{both_true, both-and}
 use Rattle.suites.specs.Suites.{Nk, Nn, Nt}
-use Rattle.suites.specs.declared.sizes.Found.TheVariants.{Known}
 use Rattle.suites.specs.declared.sizes.Suite.{Suite}
 use Rattle.secure_objects.specs.Objects.{name_most, ceiling}
 use Rattle.secure_objects.proofs.Laws.{key-length, key-octets, salt-length, salt-octets}
@@ -85,7 +85,7 @@ pub record Told (r : TrackRecord) (k : Kind) (s : Suite) : Type 0 where
   pub held : is_empty r ≡ false
   pub sends-is : is_sending r ≡ sends k
   pub receives-is : is_receiving r ≡ receives k
-  pub suite-is : suite_in r ≡ Known s
+  pub suite-is : suite_in r ≡ Some s
   pub tag_is : tag_of r ≡ Nt s
 
 pub told : (r : TrackRecord) (h : Held) (k : Kind) (s : Suite) → h ≡ held_of r → h ≡ Variants.Track k s → Told r k s
@@ -93,7 +93,7 @@ told empty h k s e n = let z : ◌≡◌ {A = ℕ} 0 1 = cc in absurd (omega ari
 told (track t) h k s e n =
     let p : t.kind ≡ k = cc in
     let q : t.suite ≡ s = cc in
-    record { held = refl; sends-is = ap sends p; receives-is = ap receives p; suite-is = ap Known q; tag_is = ap Nt q }
+    record { held = refl; sends-is = ap sends p; receives-is = ap receives p; suite-is = ap Some q; tag_is = ap Nt q }
 
 -- ---- a record just added
 

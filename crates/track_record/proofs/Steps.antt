@@ -1,5 +1,6 @@
 -- SPDX-License-Identifier: MIT
 -- What the functions over one record's bytes answer and write, over plain variables. Assumes nothing.
+use Rattle.std.specs.Prelude.{Option, Some, None}
 use mathlib.Core.Path.{◌≡◌, refl, sym, ◌∙◌, ap, ap₂}
 use mathlib.Core.Bool.{Bool, true, false, not, false≢true}
 use mathlib.Core.List.{List, [], ◌∷◌, ◌++◌}
@@ -15,8 +16,6 @@ use Rattle.octets.specs.Octets.{Octets, number, bytes, pasted, same, pick, both}
 use Rattle.octets.proofs.Laws.{part-rest, number-add, number_lt, octets-drop, bytes-length, pasted-append, pasted_length}
 use Rattle.suites.specs.Suites.{suite_of, number_of, Nk, Nn}
 use Rattle.suites.specs.declared.sizes.Suite.{Suite}
-use Rattle.suites.specs.declared.sizes.Found.{Found}
-use Rattle.suites.specs.declared.sizes.Found.TheVariants.{Known, Unknown}
 use Rattle.suites.proofs.Laws.{Nk-most, number_is}
 use Rattle.secure_objects.specs.Objects.{name_most, object_ceiling, counter}
 use Rattle.secure_objects.specs.Derivation.{moq_key, moq_salt}
@@ -53,11 +52,11 @@ module _ (l : List ℕ) where
   pub held-long : (v : ℕ) → v ≡ number 2 (take (length l - length_at) (drop length_at l)) → name_most < v → Nothing ≡ held_of (decode l)
   held-long v e h = sym (ap held_of (read-long l (rw (e ∙ number-rest 2 length_at l) at h)))
 
-  pub held-unsuited : (f : Found) → f ≡ suite_of (get_or l suite_at 0) → f ≡ Unknown → Nothing ≡ held_of (decode l)
+  pub held-unsuited : (f : Option Suite) → f ≡ suite_of (get_or l suite_at 0) → f ≡ None → Nothing ≡ held_of (decode l)
   held-unsuited f e u = sym (ap held_of (read-unsuited l (sym e ∙ u)))
 
-  pub held-track : (v : ℕ) (f : Found) (s : Suite) (k : Kind) → 1 ≤ get_or l mark_at 0 → get_or l mark_at 0 ≤ 3 → v ≡ number 2 (take (length l - length_at) (drop length_at l)) → v ≤ name_most
-      → f ≡ suite_of (get_or l suite_at 0) → f ≡ Known s → k ≡ kind_of (get_or l mark_at 0) → Variants.Track k s ≡ held_of (decode l)
+  pub held-track : (v : ℕ) (f : Option Suite) (s : Suite) (k : Kind) → 1 ≤ get_or l mark_at 0 → get_or l mark_at 0 ≤ 3 → v ≡ number 2 (take (length l - length_at) (drop length_at l)) → v ≤ name_most
+      → f ≡ suite_of (get_or l suite_at 0) → f ≡ Some s → k ≡ kind_of (get_or l mark_at 0) → Variants.Track k s ≡ held_of (decode l)
   unfolding decode_as
   held-track v f s k a b e h q u w =
       ap (λ (x : Kind). Variants.Track x s) w
@@ -141,15 +140,15 @@ module _ (l : List ℕ) (h : is_empty (decode l) ≡ false) where
         by (no' t) = let u = leb-false o' w t in t ∙ sym (le-ltb (g * object_ceiling + o') (floor_of (decode l)) (omega (arith, floor-here, low)))
 
 -- the key of a record of a suite
-pub suite-held : (r : TrackRecord) (s : Suite) → suite_in r ≡ Known s → is_empty r ≡ false
+pub suite-held : (r : TrackRecord) (s : Suite) → suite_in r ≡ Some s → is_empty r ≡ false
 suite-held empty s e = let z : ◌≡◌ {A = ℕ} 0 1 = cc in absurd (omega arith)
 suite-held (track t) s e = refl
 
-pub key-read : (l : List ℕ) (s : Suite) (end : ℕ) → suite_in (decode l) ≡ Known s → end ≡ key_at + Nk s → take (end - key_at) (drop key_at l) ≡ key_of (decode l)
+pub key-read : (l : List ℕ) (s : Suite) (end : ℕ) → suite_in (decode l) ≡ Some s → end ≡ key_at + Nk s → take (end - key_at) (drop key_at l) ≡ key_of (decode l)
 unfolding decode_as
 key-read l s end e q =
     let r = read l (suite-held (decode l) s e) in
-    let w : Known r.suite ≡ Known s = sym (ap suite_in r.is) ∙ e in
+    let w : Some r.suite ≡ Some s = sym (ap suite_in r.is) ∙ e in
     let v : r.suite ≡ s = cc in
     let k : end - key_at ≡ Nk s = omega arith in
     ap (λ (m : ℕ). take m (drop key_at l)) (k ∙ ap Nk (sym v)) ∙ sym (ap key_of r.is)
@@ -257,14 +256,14 @@ module _ (l : List ℕ) (kind : Kind) (s : Suite) (h : held_of (decode l) ≡ Va
   pub told-held : is_empty (decode l) ≡ false
   told-held = sym (something-held (decode l) (held_of (decode l)) kind s refl h)
 
-  told-suite : suite_in (decode l) ≡ Known s
+  told-suite : suite_in (decode l) ≡ Some s
   told-suite = by (decode l) h
     where
-      by : (r : TrackRecord) → held_of r ≡ Variants.Track kind s → suite_in r ≡ Known s
+      by : (r : TrackRecord) → held_of r ≡ Variants.Track kind s → suite_in r ≡ Some s
       by empty e = let z : ◌≡◌ {A = ℕ} 0 1 = cc in absurd (omega arith)
-      by (track t) e = let q : t.suite ≡ s = cc in ap Known q
+      by (track t) e = let q : t.suite ≡ s = cc in ap Some q
 
-  pub suite-told : suite_in (decode l) ≡ Known s
+  pub suite-told : suite_in (decode l) ≡ Some s
   suite-told = told-suite
 
   there-kind : ((decode_as (read l told-held).suite l).kind ≡ kind) × ((read l told-held).suite ≡ s)

@@ -1,9 +1,8 @@
 // SPDX-License-Identifier: MIT
 // One record's bytes, read and written as the record that they are.
-ghost use Rattle.std.specs.Prelude.{◌≡◌, true, false, ◌+◌, ◌≤◌, ◌<◌, ltb, length, replicate};
+ghost use Rattle.std.specs.Prelude.{◌≡◌, Some, true, false, ◌+◌, ◌≤◌, ◌<◌, ltb, length, replicate};
 ghost use Rattle.answers.specs.Limits.{base_key_most};
 ghost use Rattle.suites.specs.Suites.{Nk, Nn};
-ghost use Rattle.suites.specs.declared.sizes.Found.TheVariants.{Known};
 ghost use Rattle.secure_objects.specs.Objects.{name_most, object_ceiling, counter};
 ghost use Rattle.track_record.specs.Layout.{record_size, mark_of, kind_of, encode, decode};
 ghost use Rattle.track_record.specs.Record.{empty, is_empty, is_sending, track_id, holds, floor_of, salt_of, key_of, kind_for, fresh, advanced, retired};
@@ -14,7 +13,7 @@ use crate::{
     RETIRED, Role, SALT, SENDER, SUITE,
 };
 use secure_objects::{GroupId, KeyId, MAX_NAME, ObjectId, derivation};
-use suites::{Found, Suite};
+use suites::Suite;
 
 // What a mark stands for.
 fn kind_of(mark: u8) -> Kind
@@ -65,7 +64,7 @@ pub fn held_in(row: &[u8]) -> Held
     if (MAX_NAME as u64) < octets::read_be(&row[NAME_LENGTH..], 2) {
         return Held::Nothing;
     }
-    let Found::Known(suite) = suites::sizes::find(row[SUITE] as u64) else {
+    let Some(suite) = suites::sizes::find(row[SUITE] as u64) else {
         return Held::Nothing;
     };
     Held::Track(kind_of(mark), suite)
@@ -139,7 +138,7 @@ pub fn salt_of(row: &[u8]) -> &[u8]
 
 // The key of a record of that suite.
 pub fn key_of(row: &[u8], suite: Suite) -> &[u8]
-    requires { (length row.now ≡ record_size) × (suite_in (decode row.now) ≡ Known suite) }
+    requires { (length row.now ≡ record_size) × (suite_in (decode row.now) ≡ Some suite) }
     ensures { (result.now ≡ key_of (decode row.now)) × (length result.now ≡ Nk suite) }
 {
     let end = KEY + suite.key_size();

@@ -1,5 +1,6 @@
 -- SPDX-License-Identifier: MIT
 -- What Make and Remove answer, cause by cause, over plain variables. Assumes nothing.
+use Rattle.std.specs.Prelude.{Option, Some, None}
 use mathlib.Core.Path.{◌≡◌, refl, sym, ◌∙◌, ap}
 use mathlib.Core.Bool.{Bool, true, false, not}
 use mathlib.Core.List.{List}
@@ -19,8 +20,6 @@ use Rattle.tracks.specs.Calls.{make, remove_causes, remove_at, remove}
 use Rattle.tracks.specs.Tracks.{length_right, encode_all, records, sound}
 use Rattle.tracks.specs.Table.{get, apart}
 use Rattle.tracks.specs.Inner.Places.{FoundIn}
-use Rattle.tracks.specs.declared.Place.{Place}
-use Rattle.tracks.specs.declared.Place.TheVariants.{At, Nowhere}
 use Rattle.track_record.proofs.Records.{holds-some}
 use Rattle.tracks.proofs.Stores.{sound-stored}
 use Rattle.tracks.proofs.Tables.{put-at}
@@ -57,15 +56,15 @@ module _ (s : List ℕ) (id : TrackId) (is-sound : sound s ≡ true) where
   unfolding remove
   outcome-of held g = ap (λ (v : Bool). remove_at v (get id (records s)) (records s) s id) is-sound ∙ ap (λ (h : TrackRecord). remove_at true h (records s) s id) g
 
-  pub remove-missing : (p : Place) → FoundIn p id (records s) → p ≡ Nowhere → (kid_missing ≡ (remove s id).number) × (s ≡ (remove s id).store)
+  pub remove-missing : (p : Option ℕ) → FoundIn p id (records s) → p ≡ None → (kid_missing ≡ (remove s id).number) × (s ≡ (remove s id).store)
   unfolding remove_at remove_causes first settled
   remove-missing p f w =
       let g : get id (records s) ≡ empty = rw w at f in
       let q = outcome-of empty g in
       (sym (ap (λ (x : Outcome). x.number) q), sym (ap (λ (x : Outcome). x.store) q))
 
-  module _ (o : Octets s) (p : Place) (f : FoundIn p id (records s)) (i : ℕ) (w : p ≡ At i) where
-    found : FoundIn (At i) id (records s)
+  module _ (o : Octets s) (p : Option ℕ) (f : FoundIn p id (records s)) (i : ℕ) (w : p ≡ Some i) where
+    found : FoundIn (Some i) id (records s)
     found = rw w at f
 
     pub held-there : is_empty (get_or (records s) i empty) ≡ false

@@ -1,5 +1,6 @@
 -- SPDX-License-Identifier: MIT
 -- Walks over the records of a store, one turn each, over plain variables. Assumes nothing.
+use Rattle.std.specs.Prelude.{Option, Some, None}
 use mathlib.Core.Path.{◌≡◌, refl, sym, ◌∙◌, ap}
 use mathlib.Core.Bool.{Bool, true, false, not}
 use mathlib.Core.List.{List, [], ◌∷◌}
@@ -22,8 +23,6 @@ use Rattle.answers.proofs.Basics.{told-false, told-true}
 use Rattle.track_record.proofs.Records.{holds-some, holds-own, empty-is}
 use Rattle.tracks.proofs.Stores.{length-right}
 use Rattle.tracks.proofs.Tables.{get-here, get-there, alone-get}
-use Rattle.tracks.specs.declared.Place.{Place}
-use Rattle.tracks.specs.declared.Place.TheVariants.{At, Nowhere}
 
 -- ---- lengths
 
@@ -113,7 +112,7 @@ module _ (s : List ℕ) (i : ℕ) (inside : i < length s / record_size) where
     pub find-go : r ≡ false → Finding id s (i + 1)
     find-go t = f ∙ ap (get id) records-turn ∙ get-there id (decode (part_at s i)) (left s (i + 1)) (sym e ∙ t)
 
-    pub find-here : r ≡ true → FoundIn (At i) id (records s)
+    pub find-here : r ≡ true → FoundIn (Some i) id (records s)
     find-here t =
         let h : holds id (decode (part_at s i)) ≡ true = sym e ∙ t in
         (within, f ∙ ap (get id) records-turn ∙ get-here id (decode (part_at s i)) (left s (i + 1)) h ∙ sym record_is, ap (holds id) record_is ∙ h)
@@ -174,12 +173,12 @@ module _ (x : TrackRecord) (rs : List TrackRecord) (v : TrackId) (r : Bool) (e :
   alone-is : alone x rs ≡ is_empty (get v rs)
   alone-is = alone-get v x rs (ap (λ (k : TrackId). holds k x) q ∙ holds-own x (sym e ∙ t))
 
-  pub alone-nowhere : (p : Place) → FoundIn p v rs → p ≡ Nowhere → true ≡ alone x rs
+  pub alone-nowhere : (p : Option ℕ) → FoundIn p v rs → p ≡ None → true ≡ alone x rs
   alone-nowhere p f w = let g : get v rs ≡ empty = rw w at f in sym (alone-is ∙ ap is_empty g)
 
-  pub alone-found : (p : Place) (i : ℕ) → FoundIn p v rs → p ≡ At i → false ≡ alone x rs
+  pub alone-found : (p : Option ℕ) (i : ℕ) → FoundIn p v rs → p ≡ Some i → false ≡ alone x rs
   alone-found p i f w =
-      let g : FoundIn (At i) v rs = rw w at f in
+      let g : FoundIn (Some i) v rs = rw w at f in
       sym (alone-is ∙ ap is_empty g.1 ∙ holds-some v (get_or rs i empty) g.2)
 
 -- ---- the whole store
@@ -210,7 +209,7 @@ abbrev pub NoneFree : List ℕ → ℕ → Type 0
 NoneFree s i = (j : ℕ) → j < i → is_empty (get_or (records s) j empty) ≡ false
 
 module _ (s : List ℕ) (i : ℕ) (inside : i < length s / record_size) (r : Bool) (e : r ≡ is_empty (decode (part_at s i))) (n : NoneFree s i) where
-  pub free-here : r ≡ true → FreeIn (At i) (records s)
+  pub free-here : r ≡ true → FreeIn (Some i) (records s)
   free-here t = (within s i inside, ap is_empty (record_is s i inside) ∙ sym e ∙ t, n)
 
   pub free-go : r ≡ false → NoneFree s (i + 1)

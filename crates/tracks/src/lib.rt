@@ -19,13 +19,6 @@ use track_record::{Held, Kind, RECORD_SIZE, Role, judging, row};
 
 pub const MAX_RECORDS: usize = 16;
 
-// Where a record stands: the number of the record, or nowhere.
-#[derive(Clone, Copy)]
-pub enum Place {
-    At(usize),
-    Nowhere,
-}
-
 // Whether a length is that of a track store.
 fn length_right(n: usize) -> bool
     ensures { result ≡ length_right n }
@@ -61,29 +54,29 @@ fn rows_obey(store: &[u8]) -> bool
 }
 
 // Where the record stands that holds a track.
-pub fn find(store: &[u8], name: &[u8], id: KeyId) -> Place
+pub fn find(store: &[u8], name: &[u8], id: KeyId) -> Option<usize>
     requires { Whole store.now }
     ensures { FoundIn result (track_id name.now id.0) (records store.now) }
 {
     for i in 0..store.len() / RECORD_SIZE {
         if row::holds(part(store, i), name, id) {
-            return Place::At(i);
+            return Some(i);
         }
     }
-    Place::Nowhere
+    None
 }
 
 // Where the lowest-numbered empty record stands.
-pub fn find_free(store: &[u8]) -> Place
+pub fn find_free(store: &[u8]) -> Option<usize>
     requires { Whole store.now }
     ensures { FreeIn result (records store.now) }
 {
     for i in 0..store.len() / RECORD_SIZE {
         if row::is_empty(part(store, i)) {
-            return Place::At(i);
+            return Some(i);
         }
     }
-    Place::Nowhere
+    None
 }
 
 // Whether no record of rest shares name and Key ID of a record.
@@ -94,7 +87,7 @@ fn alone_in(row: &[u8], rest: &[u8]) -> bool
     if row::is_empty(row) {
         return true;
     }
-    let Place::At(place) = find(rest, row::name_of(row), row::key_id_of(row)) else {
+    let Some(place) = find(rest, row::name_of(row), row::key_id_of(row)) else {
         return true;
     };
     false
@@ -207,7 +200,7 @@ pub fn remove(store: &mut [u8], name: &[u8], id: KeyId) -> u32
     if !is_sound(store) {
         return STORE_INVALID;
     }
-    let Place::At(i) = find(store, name, id) else {
+    let Some(i) = find(store, name, id) else {
         return KID_MISSING;
     };
     if is_retired(row_at(store, i)) {

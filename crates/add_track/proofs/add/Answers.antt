@@ -18,19 +18,19 @@ returns-in_default c =
 
 pub returns-then-is_barred : goal.returns-then-is_barred
 returns-then-is_barred c =
-    let answered = add-barred c.args.store.now c.args.role (track_id c.args.name.now c.args.id.0) c.args.suite c.args.base.now _ c.is_sound.ensures (ap not c.if-not-is_sound.false) _ c.find.ensures _ c.in-Known.is _ c.is_barred.ensures c.if-is_barred.true in record { value = answered.0; store_after = answered.1 }
+    let answered = add-barred c.args.store.now c.args.role (track_id c.args.name.now c.args.id.0) c.args.suite c.args.base.now _ c.is_sound.ensures (ap not c.if-not-is_sound.false) _ c.find.ensures _ c.in-Some.is _ c.is_barred.ensures c.if-is_barred.true in record { value = answered.0; store_after = answered.1 }
 
 pub returns-then-base-lt-MIN_BASE_KEY : goal.returns-then-base-lt-MIN_BASE_KEY
 returns-then-base-lt-MIN_BASE_KEY c =
-    let answered = add-short c.args.store.now c.args.role (track_id c.args.name.now c.args.id.0) c.args.suite c.args.base.now _ c.is_sound.ensures (ap not c.if-not-is_sound.false) _ c.find.ensures _ c.in-Known.is _ c.is_barred.ensures c.if-is_barred.false c.if-base-lt-MIN_BASE_KEY.true in record { value = answered.0; store_after = answered.1 }
+    let answered = add-short c.args.store.now c.args.role (track_id c.args.name.now c.args.id.0) c.args.suite c.args.base.now _ c.is_sound.ensures (ap not c.if-not-is_sound.false) _ c.find.ensures _ c.in-Some.is _ c.is_barred.ensures c.if-is_barred.false c.if-base-lt-MIN_BASE_KEY.true in record { value = answered.0; store_after = answered.1 }
 
 pub returns-then-base-gt-MAX_BASE_KEY : goal.returns-then-base-gt-MAX_BASE_KEY
 returns-then-base-gt-MAX_BASE_KEY c =
-    let answered = add-long c.args.store.now c.args.role (track_id c.args.name.now c.args.id.0) c.args.suite c.args.base.now _ c.is_sound.ensures (ap not c.if-not-is_sound.false) _ c.find.ensures _ c.in-Known.is _ c.is_barred.ensures c.if-is_barred.false c.if-base-lt-MIN_BASE_KEY.false c.if-base-gt-MAX_BASE_KEY.true in record { value = answered.0; store_after = answered.1 }
+    let answered = add-long c.args.store.now c.args.role (track_id c.args.name.now c.args.id.0) c.args.suite c.args.base.now _ c.is_sound.ensures (ap not c.if-not-is_sound.false) _ c.find.ensures _ c.in-Some.is _ c.is_barred.ensures c.if-is_barred.false c.if-base-lt-MIN_BASE_KEY.false c.if-base-gt-MAX_BASE_KEY.true in record { value = answered.0; store_after = answered.1 }
 
 pub returns-then-name-gt-MAX_NAME : goal.returns-then-name-gt-MAX_NAME
 returns-then-name-gt-MAX_NAME c =
-    let answered = add-name c.args.store.now c.args.role (track_id c.args.name.now c.args.id.0) c.args.suite c.args.base.now _ c.is_sound.ensures (ap not c.if-not-is_sound.false) _ c.find.ensures _ c.in-Known.is _ c.is_barred.ensures c.if-is_barred.false c.if-base-lt-MIN_BASE_KEY.false c.if-base-gt-MAX_BASE_KEY.false c.if-name-gt-MAX_NAME.true in record { value = answered.0; store_after = answered.1 }
+    let answered = add-name c.args.store.now c.args.role (track_id c.args.name.now c.args.id.0) c.args.suite c.args.base.now _ c.is_sound.ensures (ap not c.if-not-is_sound.false) _ c.find.ensures _ c.in-Some.is _ c.is_barred.ensures c.if-is_barred.false c.if-base-lt-MIN_BASE_KEY.false c.if-base-gt-MAX_BASE_KEY.false c.if-name-gt-MAX_NAME.true in record { value = answered.0; store_after = answered.1 }
 
 pub find-requires-2 : goal.find-requires-2
 find-requires-2 c =
@@ -39,7 +39,7 @@ find-requires-2 c =
 
 pub returns-in_default-find : goal.returns-in_default-find
 returns-in_default-find c =
-    let answered = add-held c.args.store.now c.args.role (track_id c.args.name.now c.args.id.0) c.args.suite c.args.base.now _ c.is_sound.ensures (ap not c.if-not-is_sound.false) _ c.find.ensures _ c.in-Known.is _ c.is_barred.ensures c.if-is_barred.false c.if-base-lt-MIN_BASE_KEY.false c.if-base-gt-MAX_BASE_KEY.false c.if-name-gt-MAX_NAME.false _ c.find-2.ensures _ c.in_default-find.is in record { value = answered.0; store_after = answered.1 }
+    let answered = add-held c.args.store.now c.args.role (track_id c.args.name.now c.args.id.0) c.args.suite c.args.base.now _ c.is_sound.ensures (ap not c.if-not-is_sound.false) _ c.find.ensures _ c.in-Some.is _ c.is_barred.ensures c.if-is_barred.false c.if-base-lt-MIN_BASE_KEY.false c.if-base-gt-MAX_BASE_KEY.false c.if-name-gt-MAX_NAME.false _ c.find-2.ensures _ c.in_default-find.is in record { value = answered.0; store_after = answered.1 }
 
 pub find_free-requires : goal.find_free-requires
 find_free-requires c =
@@ -48,17 +48,17 @@ find_free-requires c =
 
 pub returns-in_default-find_free : goal.returns-in_default-find_free
 returns-in_default-find_free c =
-    let answered = add-full c.args.store.now c.args.role (track_id c.args.name.now c.args.id.0) c.args.suite c.args.base.now _ c.is_sound.ensures (ap not c.if-not-is_sound.false) _ c.find.ensures _ c.in-Known.is _ c.is_barred.ensures c.if-is_barred.false c.if-base-lt-MIN_BASE_KEY.false c.if-base-gt-MAX_BASE_KEY.false c.if-name-gt-MAX_NAME.false _ c.find-2.ensures c.in-Nowhere.is _ c.find_free.ensures c.in_default-find_free.is in record { value = answered.0; store_after = answered.1 }
+    let answered = add-full c.args.store.now c.args.role (track_id c.args.name.now c.args.id.0) c.args.suite c.args.base.now _ c.is_sound.ensures (ap not c.if-not-is_sound.false) _ c.find.ensures _ c.in-Some.is _ c.is_barred.ensures c.if-is_barred.false c.if-base-lt-MIN_BASE_KEY.false c.if-base-gt-MAX_BASE_KEY.false c.if-name-gt-MAX_NAME.false _ c.find-2.ensures c.in-Nowhere.is _ c.find_free.ensures c.in_default-find_free.is in record { value = answered.0; store_after = answered.1 }
 
 pub fill_at-requires : goal.fill_at-requires
 fill_at-requires c =
     let octets : Octets c.args.store.now = λ j. omega (arith, c.slice_known-1.given j) in (
-      free-within c.args.store.now _ _ (tested-sound c.args.store.now (octets) _ c.is_sound.ensures (ap not c.if-not-is_sound.false)) c.find_free.ensures c.in-At.is,
-      free-empty _ _ _ c.find_free.ensures c.in-At.is,
+      free-within c.args.store.now _ _ (tested-sound c.args.store.now (octets) _ c.is_sound.ensures (ap not c.if-not-is_sound.false)) c.find_free.ensures c.in-Some.is,
+      free-empty _ _ _ c.find_free.ensures c.in-Some.is,
       c.if-name-gt-MAX_NAME.false,
       c.if-base-gt-MAX_BASE_KEY.false,
     )
 
 pub returns : goal.returns
 returns c =
-    let answered = add_done c.args.store.now c.args.role (track_id c.args.name.now c.args.id.0) c.args.suite c.args.base.now _ c.is_sound.ensures (ap not c.if-not-is_sound.false) _ c.find.ensures _ c.in-Known.is _ c.is_barred.ensures c.if-is_barred.false c.if-base-lt-MIN_BASE_KEY.false c.if-base-gt-MAX_BASE_KEY.false c.if-name-gt-MAX_NAME.false _ c.find-2.ensures c.in-Nowhere.is _ c.find_free.ensures _ c.in-At.is _ c.fill_at.ensures in record { value = answered.0; store_after = answered.1 }
+    let answered = add_done c.args.store.now c.args.role (track_id c.args.name.now c.args.id.0) c.args.suite c.args.base.now _ c.is_sound.ensures (ap not c.if-not-is_sound.false) _ c.find.ensures _ c.in-Some.is _ c.is_barred.ensures c.if-is_barred.false c.if-base-lt-MIN_BASE_KEY.false c.if-base-gt-MAX_BASE_KEY.false c.if-name-gt-MAX_NAME.false _ c.find-2.ensures c.in-Nowhere.is _ c.find_free.ensures _ c.in-Some.is _ c.fill_at.ensures in record { value = answered.0; store_after = answered.1 }

@@ -29,24 +29,24 @@ pub returns-in_default-find_near : goal.returns-in_default-find_near
 returns-in_default-find_near c =
     let store-sound : sound c.args.store.now ≡ true = tested-sound c.args.store.now (λ j. omega (arith, c.shared_slice_known-1.given j)) _ c.is_sound.ensures (ap not c.if-not-is_sound.false) in
     let a = c.args in
-    let answered = check-missing a.store.now a.metadata.now a.bytes.now a.announced a.state.now _ _ _ (store-sound) (sym c.read_header.ensures ∙ c.in-Header.is) _ c.find_near.ensures c.in_default-find_near.is in record { value = answered.0; state_after = answered.1 }
+    let answered = check-missing a.store.now a.metadata.now a.bytes.now a.announced a.state.now _ _ _ (store-sound) (sym c.read_header.ensures ∙ c.in-Some.is) _ c.find_near.ensures c.in_default-find_near.is in record { value = answered.0; state_after = answered.1 }
 
 pub row_at-requires : goal.row_at-requires
 row_at-requires c =
     let store-sound : sound c.args.store.now ≡ true = tested-sound c.args.store.now (λ j. omega (arith, c.shared_slice_known-1.given j)) _ c.is_sound.ensures (ap not c.if-not-is_sound.false) in
-    found_within c.args.store.now _ _ _ (store-sound) c.find_near.ensures c.in-At.is
+    found_within c.args.store.now _ _ _ (store-sound) c.find_near.ensures c.in-Some-find_near.is
 
 pub begin_with-requires : goal.begin_with-requires
 begin_with-requires c =
     let store-sound : sound c.args.store.now ≡ true = tested-sound c.args.store.now (λ j. omega (arith, c.shared_slice_known-1.given j)) _ c.is_sound.ensures (ap not c.if-not-is_sound.false) in
     let a = c.args in
-    let reads = sym c.read_header.ensures ∙ c.in-Header.is in
+    let reads = sym c.read_header.ensures ∙ c.in-Some.is in
     let h = header_read a.bytes.now _ _ _ (λ j. omega (arith, c.shared_slice_known-2-1.given j)) reads in
-    (c.row_at.ensures.0, held-there a.store.now a.metadata.now a.bytes.now a.announced a.state.now _ _ _ (store-sound) reads _ c.find_near.ensures _ c.in-At.is _ c.row_at.ensures, h.most, h.inside)
+    (c.row_at.ensures.0, held-there a.store.now a.metadata.now a.bytes.now a.announced a.state.now _ _ _ (store-sound) reads _ c.find_near.ensures _ c.in-Some-find_near.is _ c.row_at.ensures, h.most, h.inside)
 
 pub returns : goal.returns
 returns c =
     let store-sound : sound c.args.store.now ≡ true = tested-sound c.args.store.now (λ j. omega (arith, c.shared_slice_known-1.given j)) _ c.is_sound.ensures (ap not c.if-not-is_sound.false) in
     let a = c.args in
-    let reads = sym c.read_header.ensures ∙ c.in-Header.is in
-    let answered = check-told a.store.now a.metadata.now a.bytes.now a.announced a.state.now _ _ _ (store-sound) reads _ c.find_near.ensures _ c.in-At.is _ c.row_at.ensures _ _ (c.begin_with.ensures.value, c.begin_with.ensures.state_after) in record { value = answered.0; state_after = answered.1 }
+    let reads = sym c.read_header.ensures ∙ c.in-Some.is in
+    let answered = check-told a.store.now a.metadata.now a.bytes.now a.announced a.state.now _ _ _ (store-sound) reads _ c.find_near.ensures _ c.in-Some-find_near.is _ c.row_at.ensures _ _ (c.begin_with.ensures.value, c.begin_with.ensures.state_after) in record { value = answered.0; state_after = answered.1 }

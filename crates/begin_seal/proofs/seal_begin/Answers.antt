@@ -21,28 +21,28 @@ returns-in_default c =
 
 pub row_at-requires : goal.row_at-requires
 row_at-requires c =
-    found_within c.args.store.now _ _ _ (tested-sound c.args.store.now (λ j. omega (arith, c.slice_known-1.given j)) _ c.is_sound.ensures (ap not c.if-not-is_sound.false)) c.find_near.ensures c.in-At.is
+    found_within c.args.store.now _ _ _ (tested-sound c.args.store.now (λ j. omega (arith, c.slice_known-1.given j)) _ c.is_sound.ensures (ap not c.if-not-is_sound.false)) c.find_near.ensures c.in-Some.is
 
 pub judge-number-requires : goal.judge-number-requires
 judge-number-requires c =
-    (c.row_at.ensures.0, held-there c.args.store.now c.args.kid.0 c.args.metadata.now c.args.announced c.args.state.now c.args.room.now (tested-sound c.args.store.now (λ j. omega (arith, c.slice_known-1.given j)) _ c.is_sound.ensures (ap not c.if-not-is_sound.false)) _ c.find_near.ensures _ c.in-At.is _ c.row_at.ensures)
+    (c.row_at.ensures.0, held-there c.args.store.now c.args.kid.0 c.args.metadata.now c.args.announced c.args.state.now c.args.room.now (tested-sound c.args.store.now (λ j. omega (arith, c.slice_known-1.given j)) _ c.is_sound.ensures (ap not c.if-not-is_sound.false)) _ c.find_near.ensures _ c.in-Some.is _ c.row_at.ensures)
 
 pub returns-then-number-ne-DONE : goal.returns-then-number-ne-DONE
 returns-then-number-ne-DONE c =
-    let q = begin-refused c.args.store.now c.args.kid.0 c.args.metadata.now c.args.announced c.args.state.now c.args.room.now (tested-sound c.args.store.now (λ j. omega (arith, c.slice_known-1.given j)) _ c.is_sound.ensures (ap not c.if-not-is_sound.false)) _ c.find_near.ensures _ c.in-At.is _ c.row_at.ensures _ c.judge-number.ensures c.if-number-ne-DONE.true in record { number_value = (c.refused-then-number-ne-DONE.ensures.0 ∙ q.0.0, c.refused-then-number-ne-DONE.ensures.1 ∙ q.0.1); store_after = q.1.0; room_after = q.1.1.0; state_after = q.1.1.1 }
+    let q = begin-refused c.args.store.now c.args.kid.0 c.args.metadata.now c.args.announced c.args.state.now c.args.room.now (tested-sound c.args.store.now (λ j. omega (arith, c.slice_known-1.given j)) _ c.is_sound.ensures (ap not c.if-not-is_sound.false)) _ c.find_near.ensures _ c.in-Some.is _ c.row_at.ensures _ c.judge-number.ensures c.if-number-ne-DONE.true in record { number_value = (c.refused-then-number-ne-DONE.ensures.0 ∙ q.0.0, c.refused-then-number-ne-DONE.ensures.1 ∙ q.0.1); store_after = q.1.0; room_after = q.1.1.0; state_after = q.1.1.1 }
 
 pub row_at-requires-2 : goal.row_at-requires-2
 row_at-requires-2 c =
-    found_within c.args.store.now _ _ _ (tested-sound c.args.store.now (λ j. omega (arith, c.slice_known-1.given j)) _ c.is_sound.ensures (ap not c.if-not-is_sound.false)) c.find_near.ensures c.in-At.is
+    found_within c.args.store.now _ _ _ (tested-sound c.args.store.now (λ j. omega (arith, c.slice_known-1.given j)) _ c.is_sound.ensures (ap not c.if-not-is_sound.false)) c.find_near.ensures c.in-Some.is
 
 pub write_line-length-requires : goal.write_line-length-requires
 write_line-length-requires c =
-    record { row = c.row_at-2.ensures.0; state_value = judged-again c.args.store.now c.args.kid.0 c.args.metadata.now c.args.announced c.args.state.now c.args.room.now (tested-sound c.args.store.now (λ j. omega (arith, c.slice_known-1.given j)) _ c.is_sound.ensures (ap not c.if-not-is_sound.false)) _ c.find_near.ensures _ c.in-At.is _ c.row_at.ensures _ c.judge-number.ensures c.if-number-ne-DONE.false _ c.row_at-2.ensures }
+    record { row = c.row_at-2.ensures.0; state_value = judged-again c.args.store.now c.args.kid.0 c.args.metadata.now c.args.announced c.args.state.now c.args.room.now (tested-sound c.args.store.now (λ j. omega (arith, c.slice_known-1.given j)) _ c.is_sound.ensures (ap not c.if-not-is_sound.false)) _ c.find_near.ensures _ c.in-Some.is _ c.row_at.ensures _ c.judge-number.ensures c.if-number-ne-DONE.false _ c.row_at-2.ensures }
 
 pub advance_at-requires : goal.advance_at-requires
 advance_at-requires c =
-    (found_within c.args.store.now _ _ _ (tested-sound c.args.store.now (λ j. omega (arith, c.slice_known-1.given j)) _ c.is_sound.ensures (ap not c.if-not-is_sound.false)) c.find_near.ensures c.in-At.is, (clear-there c.args.store.now c.args.kid.0 c.args.metadata.now c.args.announced c.args.state.now c.args.room.now (tested-sound c.args.store.now (λ j. omega (arith, c.slice_known-1.given j)) _ c.is_sound.ensures (ap not c.if-not-is_sound.false)) _ c.find_near.ensures _ c.in-At.is _ c.row_at.ensures _ c.judge-number.ensures c.if-number-ne-DONE.false).sends, counter-below c.args.store.now c.args.kid.0 c.args.metadata.now c.args.announced c.args.state.now c.args.room.now (tested-sound c.args.store.now (λ j. omega (arith, c.slice_known-1.given j)) _ c.is_sound.ensures (ap not c.if-not-is_sound.false)) _ c.find_near.ensures _ c.in-At.is _ c.row_at.ensures _ c.judge-number.ensures c.if-number-ne-DONE.false (λ j. omega (arith, c.slice_known-1.given j)))
+    (found_within c.args.store.now _ _ _ (tested-sound c.args.store.now (λ j. omega (arith, c.slice_known-1.given j)) _ c.is_sound.ensures (ap not c.if-not-is_sound.false)) c.find_near.ensures c.in-Some.is, (clear-there c.args.store.now c.args.kid.0 c.args.metadata.now c.args.announced c.args.state.now c.args.room.now (tested-sound c.args.store.now (λ j. omega (arith, c.slice_known-1.given j)) _ c.is_sound.ensures (ap not c.if-not-is_sound.false)) _ c.find_near.ensures _ c.in-Some.is _ c.row_at.ensures _ c.judge-number.ensures c.if-number-ne-DONE.false).sends, counter-below c.args.store.now c.args.kid.0 c.args.metadata.now c.args.announced c.args.state.now c.args.room.now (tested-sound c.args.store.now (λ j. omega (arith, c.slice_known-1.given j)) _ c.is_sound.ensures (ap not c.if-not-is_sound.false)) _ c.find_near.ensures _ c.in-Some.is _ c.row_at.ensures _ c.judge-number.ensures c.if-number-ne-DONE.false (λ j. omega (arith, c.slice_known-1.given j)))
 
 pub returns : goal.returns
 returns c =
-    let answered = begin-done c.args.store.now c.args.kid.0 c.args.metadata.now c.args.announced c.args.state.now c.args.room.now (tested-sound c.args.store.now (λ j. omega (arith, c.slice_known-1.given j)) _ c.is_sound.ensures (ap not c.if-not-is_sound.false)) _ c.find_near.ensures _ c.in-At.is _ c.row_at.ensures _ c.judge-number.ensures c.if-number-ne-DONE.false (λ j. omega (arith, c.slice_known-1.given j)) _ c.row_at-2.ensures _ _ _ _ c.write_line-length.ensures.value c.write_line-length.ensures.room_after c.write_line-length.ensures.state_after c.advance_at.ensures in record { number_value = answered.0; store_after = answered.1.0; room_after = answered.1.1.0; state_after = answered.1.1.1 }
+    let answered = begin-done c.args.store.now c.args.kid.0 c.args.metadata.now c.args.announced c.args.state.now c.args.room.now (tested-sound c.args.store.now (λ j. omega (arith, c.slice_known-1.given j)) _ c.is_sound.ensures (ap not c.if-not-is_sound.false)) _ c.find_near.ensures _ c.in-Some.is _ c.row_at.ensures _ c.judge-number.ensures c.if-number-ne-DONE.false (λ j. omega (arith, c.slice_known-1.given j)) _ c.row_at-2.ensures _ _ _ _ c.write_line-length.ensures.value c.write_line-length.ensures.room_after c.write_line-length.ensures.state_after c.advance_at.ensures in record { number_value = answered.0; store_after = answered.1.0; room_after = answered.1.1.0; state_after = answered.1.1.1 }

@@ -28,40 +28,40 @@ pub returns-in_default-find_near : goal.returns-in_default-find_near
 returns-in_default-find_near c =
     let store-octets : Octets c.args.store.now = λ j. omega (arith, c.slice_known-1.given j) in
     let store-sound : sound c.args.store.now ≡ true = tested-sound c.args.store.now (store-octets) _ c.is_sound.ensures (ap not c.if-not-is_sound.false) in
-    let q = open-missing c.args.store.now c.args.metadata.now c.args.frame.now c.args.room.now _ _ _ (store-sound) (sym c.read_header.ensures ∙ c.in-Header.is) _ c.find_near.ensures c.in_default-find_near.is in record { number_value = (c.refused-in_default-find_near.ensures.0 ∙ q.0.0, c.refused-in_default-find_near.ensures.1 ∙ q.0.1); store_after = q.1.0; room_after = q.1.1 }
+    let q = open-missing c.args.store.now c.args.metadata.now c.args.frame.now c.args.room.now _ _ _ (store-sound) (sym c.read_header.ensures ∙ c.in-Some.is) _ c.find_near.ensures c.in_default-find_near.is in record { number_value = (c.refused-in_default-find_near.ensures.0 ∙ q.0.0, c.refused-in_default-find_near.ensures.1 ∙ q.0.1); store_after = q.1.0; room_after = q.1.1 }
 
 pub row_at-requires : goal.row_at-requires
 row_at-requires c =
     let store-octets : Octets c.args.store.now = λ j. omega (arith, c.slice_known-1.given j) in
     let store-sound : sound c.args.store.now ≡ true = tested-sound c.args.store.now (store-octets) _ c.is_sound.ensures (ap not c.if-not-is_sound.false) in
-    found_within c.args.store.now _ _ _ (store-sound) c.find_near.ensures c.in-At.is
+    found_within c.args.store.now _ _ _ (store-sound) c.find_near.ensures c.in-Some-find_near.is
 
 pub open_with-answer-requires : goal.open_with-answer-requires
 open_with-answer-requires c =
     let store-octets : Octets c.args.store.now = λ j. omega (arith, c.slice_known-1.given j) in
     let store-sound : sound c.args.store.now ≡ true = tested-sound c.args.store.now (store-octets) _ c.is_sound.ensures (ap not c.if-not-is_sound.false) in
-    let reads = sym c.read_header.ensures ∙ c.in-Header.is in
+    let reads = sym c.read_header.ensures ∙ c.in-Some.is in
     let h = header_read c.args.frame.now _ _ _ (λ j. omega (arith, c.shared_slice_known-1.given j)) reads in
-    (c.row_at.ensures.0, held-there c.args.store.now c.args.metadata.now c.args.frame.now c.args.room.now _ _ _ (store-sound) reads _ c.find_near.ensures _ c.in-At.is _ c.row_at.ensures, h.most, h.inside)
+    (c.row_at.ensures.0, held-there c.args.store.now c.args.metadata.now c.args.frame.now c.args.room.now _ _ _ (store-sound) reads _ c.find_near.ensures _ c.in-Some-find_near.is _ c.row_at.ensures, h.most, h.inside)
 
 pub returns-then-answer-ne-DONE : goal.returns-then-answer-ne-DONE
 returns-then-answer-ne-DONE c =
     let store-octets : Octets c.args.store.now = λ j. omega (arith, c.slice_known-1.given j) in
     let store-sound : sound c.args.store.now ≡ true = tested-sound c.args.store.now (store-octets) _ c.is_sound.ensures (ap not c.if-not-is_sound.false) in
-    let reads = sym c.read_header.ensures ∙ c.in-Header.is in
-    let answered = open-refused c.args.store.now c.args.metadata.now c.args.frame.now c.args.room.now _ _ _ (store-sound) reads _ c.find_near.ensures _ c.in-At.is _ c.row_at.ensures _ _ _ c.open_with-answer.ensures.number_value c.open_with-answer.ensures.room_after c.if-answer-ne-DONE.true in record { number_value = answered.0; store_after = answered.1.0; room_after = answered.1.1 }
+    let reads = sym c.read_header.ensures ∙ c.in-Some.is in
+    let answered = open-refused c.args.store.now c.args.metadata.now c.args.frame.now c.args.room.now _ _ _ (store-sound) reads _ c.find_near.ensures _ c.in-Some-find_near.is _ c.row_at.ensures _ _ _ c.open_with-answer.ensures.number_value c.open_with-answer.ensures.room_after c.if-answer-ne-DONE.true in record { number_value = answered.0; store_after = answered.1.0; room_after = answered.1.1 }
 
 pub note_at-requires : goal.note_at-requires
 note_at-requires c =
     let store-octets : Octets c.args.store.now = λ j. omega (arith, c.slice_known-1.given j) in
     let store-sound : sound c.args.store.now ≡ true = tested-sound c.args.store.now (store-octets) _ c.is_sound.ensures (ap not c.if-not-is_sound.false) in
-    let reads = sym c.read_header.ensures ∙ c.in-Header.is in
-    let q = open-clear c.args.store.now c.args.metadata.now c.args.frame.now c.args.room.now _ _ _ (store-sound) reads _ c.find_near.ensures _ c.in-At.is _ c.row_at.ensures _ _ _ c.open_with-answer.ensures.number_value c.open_with-answer.ensures.room_after c.if-answer-ne-DONE.false in
-    (found_within c.args.store.now _ _ _ (store-sound) c.find_near.ensures c.in-At.is, q.0, q.1, q.2)
+    let reads = sym c.read_header.ensures ∙ c.in-Some.is in
+    let q = open-clear c.args.store.now c.args.metadata.now c.args.frame.now c.args.room.now _ _ _ (store-sound) reads _ c.find_near.ensures _ c.in-Some-find_near.is _ c.row_at.ensures _ _ _ c.open_with-answer.ensures.number_value c.open_with-answer.ensures.room_after c.if-answer-ne-DONE.false in
+    (found_within c.args.store.now _ _ _ (store-sound) c.find_near.ensures c.in-Some-find_near.is, q.0, q.1, q.2)
 
 pub returns : goal.returns
 returns c =
     let store-octets : Octets c.args.store.now = λ j. omega (arith, c.slice_known-1.given j) in
     let store-sound : sound c.args.store.now ≡ true = tested-sound c.args.store.now (store-octets) _ c.is_sound.ensures (ap not c.if-not-is_sound.false) in
-    let reads = sym c.read_header.ensures ∙ c.in-Header.is in
-    let answered = open_done c.args.store.now c.args.metadata.now c.args.frame.now c.args.room.now _ _ _ (store-sound) reads _ c.find_near.ensures _ c.in-At.is _ c.row_at.ensures _ _ _ c.open_with-answer.ensures.number_value c.open_with-answer.ensures.room_after c.if-answer-ne-DONE.false (store-octets) _ c.note_at.ensures in record { number_value = answered.0; store_after = answered.1.0; room_after = answered.1.1 }
+    let reads = sym c.read_header.ensures ∙ c.in-Some.is in
+    let answered = open_done c.args.store.now c.args.metadata.now c.args.frame.now c.args.room.now _ _ _ (store-sound) reads _ c.find_near.ensures _ c.in-Some-find_near.is _ c.row_at.ensures _ _ _ c.open_with-answer.ensures.number_value c.open_with-answer.ensures.room_after c.if-answer-ne-DONE.false (store-octets) _ c.note_at.ensures in record { number_value = answered.0; store_after = answered.1.0; room_after = answered.1.1 }

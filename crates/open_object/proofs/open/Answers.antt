@@ -28,15 +28,15 @@ returns-in_default c =
 pub row_at-requires : goal.row_at-requires
 row_at-requires c =
     let octets : Octets c.args.store.now = λ j. omega (arith, c.shared_slice_known-1.given j) in
-    found_within c.args.store.now (track_id c.args.name.now c.args.id.0) _ _ (tested-sound c.args.store.now (octets) _ c.is_sound.ensures (ap not c.if-not-is_sound.false)) c.find.ensures c.in-At.is
+    found_within c.args.store.now (track_id c.args.name.now c.args.id.0) _ _ (tested-sound c.args.store.now (octets) _ c.is_sound.ensures (ap not c.if-not-is_sound.false)) c.find.ensures c.in-Some.is
 
 pub open_with-requires : goal.open_with-requires
 open_with-requires c =
     let octets : Octets c.args.store.now = λ j. omega (arith, c.shared_slice_known-1.given j) in
-    (c.row_at.ensures.0.0, held-there c.args.store.now (track_id c.args.name.now c.args.id.0) c.args.group.0 c.args.object.0 c.args.properties.now c.args.sealed.now c.args.room.now (tested-sound c.args.store.now (octets) _ c.is_sound.ensures (ap not c.if-not-is_sound.false)) _ c.find.ensures _ c.in-At.is _ c.row_at.ensures, name-fits c.args.store.now (track_id c.args.name.now c.args.id.0) c.args.group.0 c.args.object.0 c.args.properties.now c.args.sealed.now c.args.room.now (tested-sound c.args.store.now (octets) _ c.is_sound.ensures (ap not c.if-not-is_sound.false)) _ c.find.ensures _ c.in-At.is (octets))
+    (c.row_at.ensures.0.0, held-there c.args.store.now (track_id c.args.name.now c.args.id.0) c.args.group.0 c.args.object.0 c.args.properties.now c.args.sealed.now c.args.room.now (tested-sound c.args.store.now (octets) _ c.is_sound.ensures (ap not c.if-not-is_sound.false)) _ c.find.ensures _ c.in-Some.is _ c.row_at.ensures, name-fits c.args.store.now (track_id c.args.name.now c.args.id.0) c.args.group.0 c.args.object.0 c.args.properties.now c.args.sealed.now c.args.room.now (tested-sound c.args.store.now (octets) _ c.is_sound.ensures (ap not c.if-not-is_sound.false)) _ c.find.ensures _ c.in-Some.is (octets))
 
 pub returns : goal.returns
 returns c =
     let octets : Octets c.args.store.now = λ j. omega (arith, c.shared_slice_known-1.given j) in
     let e = c.open_with.ensures in
-    let answered = open-found c.args.store.now (track_id c.args.name.now c.args.id.0) c.args.group.0 c.args.object.0 c.args.properties.now c.args.sealed.now c.args.room.now (tested-sound c.args.store.now (octets) _ c.is_sound.ensures (ap not c.if-not-is_sound.false)) _ c.find.ensures _ c.in-At.is _ c.row_at.ensures _ _ _ (e.number_value, e.room_after) in record { number_value = answered.0; room_after = answered.1 }
+    let answered = open-found c.args.store.now (track_id c.args.name.now c.args.id.0) c.args.group.0 c.args.object.0 c.args.properties.now c.args.sealed.now c.args.room.now (tested-sound c.args.store.now (octets) _ c.is_sound.ensures (ap not c.if-not-is_sound.false)) _ c.find.ensures _ c.in-Some.is _ c.row_at.ensures _ _ _ (e.number_value, e.room_after) in record { number_value = answered.0; room_after = answered.1 }

@@ -12,20 +12,20 @@ returns-in_default c =
 
 pub is_past-requires : goal.is_past-requires
 is_past-requires c =
-    let p = known-possible checking c.args.state.now _ _ c.line_of.ensures c.in-Known.is in (p.sized, p.within)
+    let p = known-possible checking c.args.state.now _ _ c.line_of.ensures c.in-Some.is in (p.sized, p.within)
 
 pub returns-then-is_past : goal.returns-then-is_past
 returns-then-is_past c =
     let s = c.args in
-    let q = check-past s.state.now s.piece.now _ c.line_of.ensures _ c.in-Known.is _ c.is_past.ensures c.if-is_past.true in
+    let q = check-past s.state.now s.piece.now _ c.line_of.ensures _ c.in-Some.is _ c.is_past.ensures c.if-is_past.true in
     record { value = q.0.0; state_after = q.1.0 }
 
 pub take_in-requires : goal.take_in-requires
 take_in-requires c =
-    let p = known-possible checking c.args.state.now _ _ c.line_of.ensures c.in-Known.is in (p.sized, within c.args.state.now _ _ p c.is_past.ensures c.if-is_past.false)
+    let p = known-possible checking c.args.state.now _ _ c.line_of.ensures c.in-Some.is in (p.sized, within c.args.state.now _ _ p c.is_past.ensures c.if-is_past.false)
 
 pub returns : goal.returns
 returns c =
     let s = c.args in
-    let q = check_done s.state.now s.piece.now _ c.line_of.ensures _ c.in-Known.is _ c.is_past.ensures c.if-is_past.false in
+    let q = check_done s.state.now s.piece.now _ c.line_of.ensures _ c.in-Some.is _ c.is_past.ensures c.if-is_past.false in
     record { value = q.0.0; state_after = c.take_in.ensures ∙ q.1.0 }

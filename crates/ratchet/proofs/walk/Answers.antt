@@ -14,7 +14,7 @@ returns-in_default c =
 pub returns-then-number-ne-DONE : goal.returns-then-number-ne-DONE
 returns-then-number-ne-DONE c =
     let a = c.args in
-    let q = walk_refused a.suite a.base.now a.steps a.room.now c.in-Known.known (sym c.find.ensures ∙ c.in-Known.is) c.walked_size-n.result c.judge-number.result c.walked_size-n.ensures c.judge-number.ensures c.if-number-ne-DONE.true in
+    let q = walk_refused a.suite a.base.now a.steps a.room.now c.in-Some.known (sym c.find.ensures ∙ c.in-Some.is) c.walked_size-n.result c.judge-number.result c.walked_size-n.ensures c.judge-number.ensures c.if-number-ne-DONE.true in
     record { number_value = (c.refused-then-number-ne-DONE.ensures.0 ∙ q.0.0, c.refused-then-number-ne-DONE.ensures.1 ∙ q.0.1); room_after = q.1 }
 
 pub slice_bounds-take_steps-end : goal.slice_bounds-take_steps-end
@@ -25,10 +25,10 @@ slice_bounds-take_steps-end c =
 pub take_steps-requires : goal.take_steps-requires
 take_steps-requires c =
     let a = c.args in
-    steps-fit c.in-Known.known a.base.now a.room.now a.steps c.walked_size-n.result c.judge-number.result c.walked_size-n.ensures c.judge-number.ensures c.if-number-ne-DONE.false
+    steps-fit c.in-Some.known a.base.now a.room.now a.steps c.walked_size-n.result c.judge-number.result c.walked_size-n.ensures c.judge-number.ensures c.if-number-ne-DONE.false
 
 pub returns : goal.returns
 returns c =
     let a = c.args in
-    let answered = walk-done a.suite a.base.now a.steps a.room.now c.in-Known.known (sym c.find.ensures ∙ c.in-Known.is) c.walked_size-n.result c.judge-number.result c.walked_size-n.ensures c.judge-number.ensures _ c.if-number-ne-DONE.false
+    let answered = walk-done a.suite a.base.now a.steps a.room.now c.in-Some.known (sym c.find.ensures ∙ c.in-Some.is) c.walked_size-n.result c.judge-number.result c.walked_size-n.ensures c.judge-number.ensures _ c.if-number-ne-DONE.false
     (front-walked a.room.now _ _ c.walked_size-n.result c.take_steps.ensures) in record { number_value = answered.0; room_after = answered.1 }

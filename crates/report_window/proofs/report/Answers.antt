@@ -25,7 +25,7 @@ returns-in_default c =
 pub row_at-row-requires : goal.row_at-row-requires
 row_at-row-requires c =
     let store-sound : sound c.args.store.now ≡ true = tested-sound c.args.store.now (λ j. omega (arith, c.shared_slice_known-1.given j)) _ c.is_sound.ensures (ap not c.if-not-is_sound.false) in
-    found_within c.args.store.now _ _ _ (store-sound) c.find.ensures c.in-At.is
+    found_within c.args.store.now _ _ _ (store-sound) c.find.ensures c.in-Some.is
 
 pub is_receiving-requires : goal.is_receiving-requires
 is_receiving-requires c = c.row_at-row.ensures.0.0
@@ -33,7 +33,7 @@ is_receiving-requires c = c.row_at-row.ensures.0.0
 pub returns-then-not-is_receiving : goal.returns-then-not-is_receiving
 returns-then-not-is_receiving c =
     let store-sound : sound c.args.store.now ≡ true = tested-sound c.args.store.now (λ j. omega (arith, c.shared_slice_known-1.given j)) _ c.is_sound.ensures (ap not c.if-not-is_sound.false) in
-    let q = report-refused c.args.store.now _ (store-sound) _ c.find.ensures _ c.in-At.is _ c.row_at-row.ensures _ c.is_receiving.ensures (ap not c.if-not-is_receiving.true) in (c.refused-then-not-is_receiving.ensures.0 ∙ q.0, c.refused-then-not-is_receiving.ensures.1 ∙ q.1)
+    let q = report-refused c.args.store.now _ (store-sound) _ c.find.ensures _ c.in-Some.is _ c.row_at-row.ensures _ c.is_receiving.ensures (ap not c.if-not-is_receiving.true) in (c.refused-then-not-is_receiving.ensures.0 ∙ q.0, c.refused-then-not-is_receiving.ensures.1 ∙ q.1)
 
 pub window_of-requires : goal.window_of-requires
 window_of-requires c = (c.row_at-row.ensures.0.0, told-true _ _ c.is_receiving.ensures (ap not c.if-not-is_receiving.false))
@@ -41,4 +41,4 @@ window_of-requires c = (c.row_at-row.ensures.0.0, told-true _ _ c.is_receiving.e
 pub returns : goal.returns
 returns c =
     let store-sound : sound c.args.store.now ≡ true = tested-sound c.args.store.now (λ j. omega (arith, c.shared_slice_known-1.given j)) _ c.is_sound.ensures (ap not c.if-not-is_sound.false) in
-    report-counted c.args.store.now _ (store-sound) _ c.find.ensures _ c.in-At.is _ c.row_at-row.ensures _ c.is_receiving.ensures (ap not c.if-not-is_receiving.false) _ _ c.window_of.ensures c.count-count.ensures
+    report-counted c.args.store.now _ (store-sound) _ c.find.ensures _ c.in-Some.is _ c.row_at-row.ensures _ c.is_receiving.ensures (ap not c.if-not-is_receiving.false) _ _ c.window_of.ensures c.count-count.ensures

@@ -26,34 +26,34 @@ returns-in_default c =
 pub row_at-requires : goal.row_at-requires
 row_at-requires c =
     let octets : Octets c.args.store.now = λ j. omega (arith, c.slice_known-1.given j) in
-    found_within c.args.store.now (track_id c.args.name.now c.args.id.0) _ _ (tested-sound c.args.store.now (octets) _ c.is_sound.ensures (ap not c.if-not-is_sound.false)) c.find.ensures c.in-At.is
+    found_within c.args.store.now (track_id c.args.name.now c.args.id.0) _ _ (tested-sound c.args.store.now (octets) _ c.is_sound.ensures (ap not c.if-not-is_sound.false)) c.find.ensures c.in-Some.is
 
 pub judge-number-requires : goal.judge-number-requires
 judge-number-requires c =
     let octets : Octets c.args.store.now = λ j. omega (arith, c.slice_known-1.given j) in
-    (c.row_at.ensures.0.0, held-there c.args.store.now (track_id c.args.name.now c.args.id.0) c.args.group.0 c.args.object.0 c.args.properties.now c.args.plaintext.now c.args.room.now (tested-sound c.args.store.now (octets) _ c.is_sound.ensures (ap not c.if-not-is_sound.false)) _ c.find.ensures _ c.in-At.is _ c.row_at.ensures)
+    (c.row_at.ensures.0.0, held-there c.args.store.now (track_id c.args.name.now c.args.id.0) c.args.group.0 c.args.object.0 c.args.properties.now c.args.plaintext.now c.args.room.now (tested-sound c.args.store.now (octets) _ c.is_sound.ensures (ap not c.if-not-is_sound.false)) _ c.find.ensures _ c.in-Some.is _ c.row_at.ensures)
 
 pub returns-then-number-ne-DONE : goal.returns-then-number-ne-DONE
 returns-then-number-ne-DONE c =
     let octets : Octets c.args.store.now = λ j. omega (arith, c.slice_known-1.given j) in
-    let q = seal-refused c.args.store.now (track_id c.args.name.now c.args.id.0) c.args.group.0 c.args.object.0 c.args.properties.now c.args.plaintext.now c.args.room.now (tested-sound c.args.store.now (octets) _ c.is_sound.ensures (ap not c.if-not-is_sound.false)) _ c.find.ensures _ c.in-At.is _ c.row_at.ensures _ c.judge-number.ensures c.if-number-ne-DONE.true in record { number_value = (c.refused-then-number-ne-DONE.ensures.0 ∙ q.0.0, c.refused-then-number-ne-DONE.ensures.1 ∙ q.0.1); store_after = q.1.0; room_after = q.1.1 }
+    let q = seal-refused c.args.store.now (track_id c.args.name.now c.args.id.0) c.args.group.0 c.args.object.0 c.args.properties.now c.args.plaintext.now c.args.room.now (tested-sound c.args.store.now (octets) _ c.is_sound.ensures (ap not c.if-not-is_sound.false)) _ c.find.ensures _ c.in-Some.is _ c.row_at.ensures _ c.judge-number.ensures c.if-number-ne-DONE.true in record { number_value = (c.refused-then-number-ne-DONE.ensures.0 ∙ q.0.0, c.refused-then-number-ne-DONE.ensures.1 ∙ q.0.1); store_after = q.1.0; room_after = q.1.1 }
 
 pub row_at-requires-2 : goal.row_at-requires-2
 row_at-requires-2 c =
     let octets : Octets c.args.store.now = λ j. omega (arith, c.slice_known-1.given j) in
-    found_within c.args.store.now (track_id c.args.name.now c.args.id.0) _ _ (tested-sound c.args.store.now (octets) _ c.is_sound.ensures (ap not c.if-not-is_sound.false)) c.find.ensures c.in-At.is
+    found_within c.args.store.now (track_id c.args.name.now c.args.id.0) _ _ (tested-sound c.args.store.now (octets) _ c.is_sound.ensures (ap not c.if-not-is_sound.false)) c.find.ensures c.in-Some.is
 
 pub write_object-length-requires : goal.write_object-length-requires
 write_object-length-requires c =
     let octets : Octets c.args.store.now = λ j. omega (arith, c.slice_known-1.given j) in
-    record { row_len = (c.row_at-2.ensures.0.0, name-fits c.args.store.now (track_id c.args.name.now c.args.id.0) c.args.group.0 c.args.object.0 c.args.properties.now c.args.plaintext.now c.args.room.now (tested-sound c.args.store.now (octets) _ c.is_sound.ensures (ap not c.if-not-is_sound.false)) _ c.find.ensures _ c.in-At.is (octets)); room_value = judged-again c.args.store.now (track_id c.args.name.now c.args.id.0) c.args.group.0 c.args.object.0 c.args.properties.now c.args.plaintext.now c.args.room.now (tested-sound c.args.store.now (octets) _ c.is_sound.ensures (ap not c.if-not-is_sound.false)) _ c.find.ensures _ c.in-At.is _ c.row_at.ensures _ c.judge-number.ensures c.if-number-ne-DONE.false _ c.row_at-2.ensures }
+    record { row_len = (c.row_at-2.ensures.0.0, name-fits c.args.store.now (track_id c.args.name.now c.args.id.0) c.args.group.0 c.args.object.0 c.args.properties.now c.args.plaintext.now c.args.room.now (tested-sound c.args.store.now (octets) _ c.is_sound.ensures (ap not c.if-not-is_sound.false)) _ c.find.ensures _ c.in-Some.is (octets)); room_value = judged-again c.args.store.now (track_id c.args.name.now c.args.id.0) c.args.group.0 c.args.object.0 c.args.properties.now c.args.plaintext.now c.args.room.now (tested-sound c.args.store.now (octets) _ c.is_sound.ensures (ap not c.if-not-is_sound.false)) _ c.find.ensures _ c.in-Some.is _ c.row_at.ensures _ c.judge-number.ensures c.if-number-ne-DONE.false _ c.row_at-2.ensures }
 
 pub advance_at-requires : goal.advance_at-requires
 advance_at-requires c =
     let octets : Octets c.args.store.now = λ j. omega (arith, c.slice_known-1.given j) in
-    (found_within c.args.store.now (track_id c.args.name.now c.args.id.0) _ _ (tested-sound c.args.store.now (octets) _ c.is_sound.ensures (ap not c.if-not-is_sound.false)) c.find.ensures c.in-At.is, held_place c.args.store.now (track_id c.args.name.now c.args.id.0) c.args.group.0 c.args.object.0 c.args.properties.now c.args.plaintext.now c.args.room.now (tested-sound c.args.store.now (octets) _ c.is_sound.ensures (ap not c.if-not-is_sound.false)) _ c.find.ensures _ c.in-At.is, object-fits c.args.store.now (track_id c.args.name.now c.args.id.0) c.args.group.0 c.args.object.0 c.args.properties.now c.args.plaintext.now c.args.room.now (tested-sound c.args.store.now (octets) _ c.is_sound.ensures (ap not c.if-not-is_sound.false)) _ c.find.ensures _ c.in-At.is _ c.row_at.ensures _ c.judge-number.ensures c.if-number-ne-DONE.false)
+    (found_within c.args.store.now (track_id c.args.name.now c.args.id.0) _ _ (tested-sound c.args.store.now (octets) _ c.is_sound.ensures (ap not c.if-not-is_sound.false)) c.find.ensures c.in-Some.is, held_place c.args.store.now (track_id c.args.name.now c.args.id.0) c.args.group.0 c.args.object.0 c.args.properties.now c.args.plaintext.now c.args.room.now (tested-sound c.args.store.now (octets) _ c.is_sound.ensures (ap not c.if-not-is_sound.false)) _ c.find.ensures _ c.in-Some.is, object-fits c.args.store.now (track_id c.args.name.now c.args.id.0) c.args.group.0 c.args.object.0 c.args.properties.now c.args.plaintext.now c.args.room.now (tested-sound c.args.store.now (octets) _ c.is_sound.ensures (ap not c.if-not-is_sound.false)) _ c.find.ensures _ c.in-Some.is _ c.row_at.ensures _ c.judge-number.ensures c.if-number-ne-DONE.false)
 
 pub returns : goal.returns
 returns c =
     let octets : Octets c.args.store.now = λ j. omega (arith, c.slice_known-1.given j) in
-    let answered = seal-done c.args.store.now (track_id c.args.name.now c.args.id.0) c.args.group.0 c.args.object.0 c.args.properties.now c.args.plaintext.now c.args.room.now (tested-sound c.args.store.now (octets) _ c.is_sound.ensures (ap not c.if-not-is_sound.false)) _ c.find.ensures _ c.in-At.is _ c.row_at.ensures _ c.judge-number.ensures c.if-number-ne-DONE.false (octets) _ c.row_at-2.ensures _ _ _ c.write_object-length.ensures.value c.write_object-length.ensures.room_after c.advance_at.ensures in record { number_value = answered.0; store_after = answered.1.0; room_after = answered.1.1 }
+    let answered = seal-done c.args.store.now (track_id c.args.name.now c.args.id.0) c.args.group.0 c.args.object.0 c.args.properties.now c.args.plaintext.now c.args.room.now (tested-sound c.args.store.now (octets) _ c.is_sound.ensures (ap not c.if-not-is_sound.false)) _ c.find.ensures _ c.in-Some.is _ c.row_at.ensures _ c.judge-number.ensures c.if-number-ne-DONE.false (octets) _ c.row_at-2.ensures _ _ _ c.write_object-length.ensures.value c.write_object-length.ensures.room_after c.advance_at.ensures in record { number_value = answered.0; store_after = answered.1.0; room_after = answered.1.1 }

@@ -19,4 +19,4 @@ returns-in_default c =
 pub returns : goal.returns
 returns c =
     let a = c.args in
-    find-done a.store.now a.kid.0 _ c.is_sound.ensures (ap not c.if-not-is_sound.false) _ c.find.ensures _ c.in-At.is
+    find-done a.store.now a.kid.0 _ c.is_sound.ensures (ap not c.if-not-is_sound.false) _ c.find.ensures _ c.in-Some.is

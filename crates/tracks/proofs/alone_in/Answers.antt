@@ -22,4 +22,4 @@ returns-in_default c =
 
 pub returns : goal.returns
 returns c =
-    alone-found (decode c.args.row.now) _ _ _ c.is_empty.ensures c.if-is_empty.false (λ i. track_id (c.name_of.ensures.0 i) (c.key_id_of.ensures i)) _ _ c.find.ensures c.in-At.is
+    alone-found (decode c.args.row.now) _ _ _ c.is_empty.ensures c.if-is_empty.false (λ i. track_id (c.name_of.ensures.0 i) (c.key_id_of.ensures i)) _ _ c.find.ensures c.in-Some.is

@@ -25,4 +25,4 @@ returns-in_default c =
 
 pub returns : goal.returns
 returns c =
-    held-track c.args.row.now _ _ _ _ c.if-mark-lt-SENDER.false c.if-mark-gt-RETIRED.false c.read_be.ensures.0 c.if-read_be.false c.find.ensures c.in-Known.is c.kind_of.ensures
+    held-track c.args.row.now _ _ _ _ c.if-mark-lt-SENDER.false c.if-mark-gt-RETIRED.false c.read_be.ensures.0 c.if-read_be.false c.find.ensures c.in-Some.is c.kind_of.ensures
