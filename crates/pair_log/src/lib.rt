@@ -6,12 +6,13 @@ mod pair;
 
 ghost use Rattle.std.specs.Prelude.{◌≡◌, [], ◌∷◌, ◌++◌, ◌+◌, ◌*◌, ◌/◌, ◌^◌, ◌≤◌, ◌<◌, length, take};
 ghost use Rattle.octets.specs.Octets.{ascii, number, pasted};
+ghost use Rattle.answers.specs.Refusals.{number_of, written_of};
 ghost use Rattle.pair_log.specs.Pairs.{record_size, pairs, among, inserted, repeated, Rising};
 ghost use Rattle.pair_log.specs.Report.{max_log, digit, digits, places, counted, pair_lines, listing, listing_of, report, written};
 ghost use Rattle.pair_log.specs.Inner.Listed.{value, listed, pair_size, max_listed};
 
 use crate::pair::Pair;
-use answers::{Answer, DONE, ROOM_SHORT, refused};
+use answers::Refusal;
 
 // The bytes of a record, a KID and a counter of 8 bytes each, and of the longest log.
 pub const RECORD: usize = 16;
@@ -167,28 +168,25 @@ fn listing_size(n: u64, m: u64) -> usize
 }
 
 // Writes the report of n records, of which those pairs are listed.
-fn write_listing(n: usize, found: &[Pair], room: &mut [u8]) -> Answer
+fn write_listing(n: usize, found: &[Pair], room: &mut [u8]) -> Result<usize, Refusal>
     requires { length found.now ≤ max_listed }
-    ensures number_value { (result.number ≡ (written (listing n (listed found.now)) room.old).number) × (result.length ≡ (written (listing n (listed found.now)) room.old).written) }
+    ensures number_value { (number_of result ≡ (written (listing n (listed found.now)) room.old).number) × (written_of result ≡ (written (listing n (listed found.now)) room.old).written) }
     ensures room_after { room.new ≡ (written (listing n (listed found.now)) room.old).room }
 {
     let size = listing_size(n as u64, found.len() as u64);
     if room.len() < size {
-        return refused(ROOM_SHORT);
+        return Err(Refusal::RoomShort);
     }
     let second = write_count(room, 0, b"records ", n as u64);
     let third = write_count(room, second, b"repeated ", found.len() as u64);
     write_pairs(room, third, found);
-    Answer {
-        number: DONE,
-        length: size,
-    }
+    Ok(size)
 }
 
 // Writes the report of a log of whole records.
-fn list(log: &[u8], room: &mut [u8]) -> Answer
+fn list(log: &[u8], room: &mut [u8]) -> Result<usize, Refusal>
     requires { length log.now ≤ max_log }
-    ensures number_value { (result.number ≡ (written (listing_of log.now) room.old).number) × (result.length ≡ (written (listing_of log.now) room.old).written) }
+    ensures number_value { (number_of result ≡ (written (listing_of log.now) room.old).number) × (written_of result ≡ (written (listing_of log.now) room.old).written) }
     ensures room_after { room.new ≡ (written (listing_of log.now) room.old).room }
 {
     let mut found = [Pair { kid: 0, ctr: 0 }; MAX_LISTED];
@@ -198,24 +196,21 @@ fn list(log: &[u8], room: &mut [u8]) -> Answer
 }
 
 // Writes a text to the front of the room.
-fn write_text(text: &[u8], room: &mut [u8]) -> Answer
-    ensures number_value { (result.number ≡ (written text.now room.old).number) × (result.length ≡ (written text.now room.old).written) }
+fn write_text(text: &[u8], room: &mut [u8]) -> Result<usize, Refusal>
+    ensures number_value { (number_of result ≡ (written text.now room.old).number) × (written_of result ≡ (written text.now room.old).written) }
     ensures room_after { room.new ≡ (written text.now room.old).room }
 {
     if room.len() < text.len() {
-        return refused(ROOM_SHORT);
+        return Err(Refusal::RoomShort);
     }
     octets::copy(room, text);
-    Answer {
-        number: DONE,
-        length: text.len(),
-    }
+    Ok(text.len())
 }
 
 // Writes the report of a log to the front of the room: the pairs that stand in it twice or more, or that it is too long
 // or not whole records. A room shorter than the report is refused with 12.
-pub fn report(log: &[u8], room: &mut [u8]) -> Answer
-    ensures number_value { (result.number ≡ (written (report log.now) room.old).number) × (result.length ≡ (written (report log.now) room.old).written) }
+pub fn report(log: &[u8], room: &mut [u8]) -> Result<usize, Refusal>
+    ensures number_value { (number_of result ≡ (written (report log.now) room.old).number) × (written_of result ≡ (written (report log.now) room.old).written) }
     ensures room_after { room.new ≡ (written (report log.now) room.old).room }
 {
     if MAX_LOG < log.len() {

@@ -1,5 +1,4 @@
 -- SPDX-License-Identifier: MIT
-use Rattle.std.proofs.Common.{◌∙◌}
 use Rattle.std.proofs.lemmas.List.{length-map}
 use Rattle.pair_log.specs.Inner.Listed.{listed}
 use Rattle.pair_log.proofs.Writing.{listing-refused, listing-written}
@@ -9,7 +8,7 @@ pub returns-then-room-size : goal.returns-then-room-size
 returns-then-room-size c =
     let a = c.args in
     let q = listing-refused a.n _ _ (listed a.found.now) a.room.now (simp length-map) c.listing_size-size.ensures c.if-room-size.true in
-    record { number_value = (c.refused.ensures.0 ∙ q.0.0, c.refused.ensures.1 ∙ q.0.1); room_after = q.1 }
+    record { number_value = q.0; room_after = q.1 }
 
 pub returns : goal.returns
 returns c =
