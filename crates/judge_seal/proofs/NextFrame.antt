@@ -27,7 +27,7 @@ use Rattle.judge_seal.specs.Seal.{next_length, next_frame}
 
 -- ---- the header of the next frame
 
-length-is : (a b : ℕ) → Length a ≡ Length b → a ≡ b
+length-is : (a b : ℕ) → Some a ≡ Some b → a ≡ b
 length-is a b e = cc
 
 module _ (out : List ℕ) (kid v : ℕ) (w : Option ℕ) (h : max_header ≤ length out) (most : length (header kid v) ≤ max_header) (a : w ≡ (write_header kid v 0 out).answer) where
@@ -41,7 +41,7 @@ module _ (out : List ℕ) (kid v : ℕ) (w : Option ℕ) (h : max_header ≤ len
       let z : ◌≡◌ {A = ℕ} 0 1 = cc in
       omega arith
 
-  pub header-written : (ctr n : ℕ) (x : List ℕ) → v ≡ ctr → w ≡ Length n → x ≡ (write_header kid v 0 out).room
+  pub header-written : (ctr n : ℕ) (x : List ℕ) → v ≡ ctr → w ≡ Some n → x ≡ (write_header kid v 0 out).room
       → ((n ≡ length (header kid ctr)) × (n ≤ max_header)) × (x ≡ header kid ctr ++ drop n out)
   unfolding write_header
   header-written ctr n x e u b =
