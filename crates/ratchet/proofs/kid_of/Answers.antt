@@ -1,5 +1,4 @@
 -- SPDX-License-Identifier: MIT
-use mathlib.Core.Path.{◌∙◌}
 use native.Mathlib.Omega.{arith}
 use Rattle.ratchet.proofs.Steps.{kid-no-bits, kid-many-bits, kid-too-long, kid-product, kid-sum, kid-made, window-some}
 use Rattle.ratchet.proofs.kid_of.Goals as goal
