@@ -1,5 +1,5 @@
 -- SPDX-License-Identifier: MIT
-use Rattle.answers.proofs.Refusals.{missing-number, nothing-written}
+use Rattle.answers.proofs.Refusals.{missing-number}
 use mathlib.Core.Path.{refl}
 use Rattle.piece_line.proofs.Steps.{known-possible}
 use Rattle.pieces.proofs.CallSteps.{tag-unknown, tag-early, tag-length, tag-differs, tag_same}

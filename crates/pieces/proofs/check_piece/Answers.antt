@@ -1,5 +1,5 @@
 -- SPDX-License-Identifier: MIT
-use Rattle.answers.proofs.Refusals.{missing-number, nothing-written}
+use Rattle.answers.proofs.Refusals.{missing-number}
 use Rattle.pieces.proofs.CallSteps.{within, check-unknown, check-past, check_done}
 use Rattle.piece_line.proofs.Steps.{known-possible}
 use Rattle.piece_line.specs.State.{checking}

@@ -1,7 +1,7 @@
 -- SPDX-License-Identifier: MIT
 use Rattle.answers.proofs.Refusals.{missing-number, nothing-written}
 use Rattle.piece_line.proofs.Steps.{known-possible}
-use Rattle.pieces.proofs.CallSteps.{first_part, tag_fits, within, end-unknown, end-early, end_short, end-written}
+use Rattle.pieces.proofs.CallSteps.{first_part, tag_fits, end-unknown, end-early, end_short, end-written}
 use Rattle.piece_line.specs.State.{sealing}
 use native.Mathlib.Omega.{arith}
 use mathlib.Core.Path.{◌∙◌}
