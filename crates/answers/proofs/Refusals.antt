@@ -71,3 +71,10 @@ module _ {A : Type 0} (a : Result A Refusal) where
 pub nothing-written : (b : Result ℕ Refusal) (y : Refusal) → IsErrAnd b (λ x. x ≡ y) → written_of b ≡ 0
 nothing-written (Ok v) y h = absurd h
 nothing-written (Err x) y h = refl
+
+-- and what a call says of its own
+pub none-written : (a : Result ℕ Refusal) (y : Refusal) → a ≡ Err y → written_of a ≡ 0
+none-written a y e = ap written_of e
+
+pub all-written : (a : Result ℕ Refusal) (n : ℕ) → a ≡ Ok n → written_of a ≡ n
+all-written a n e = ap written_of e

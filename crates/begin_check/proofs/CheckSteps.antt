@@ -11,7 +11,7 @@ use lib.Dec.{ltb}
 use lib.ListN.{length, get_or, take, length-take}
 use borrow.Author.Tests.{lt-ltb, le-ltb}
 use Rattle.octets.specs.Octets.{pasted}
-use Rattle.header.specs.Header.{max_header, read_header}
+use Rattle.header.specs.Header.{header_of, max_header, read_header}
 use Rattle.header.specs.Answers.{header_invalid, room_short, read_kid}
 use Rattle.header.specs.declared.Kid.{Kid}
 use Rattle.header.specs.declared.Ctr.{Ctr}

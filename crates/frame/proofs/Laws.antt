@@ -5,7 +5,7 @@ use mathlib.Core.List.{List, [], ◌++◌, append-nil}
 use Prim.Native.Nat.{ℕ}
 use lib.ListN.{take, take-append-drop}
 use Rattle.header.specs.Answers.{read_length}
-use Rattle.header.specs.Header.{read_header}
+use Rattle.header.specs.Header.{header_of, read_header}
 use Rattle.header.specs.declared.Ctr.{Ctr}
 use Rattle.header.specs.declared.Kid.{Kid}
 use Rattle.header.proofs.Laws.{header-front}

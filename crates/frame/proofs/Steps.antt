@@ -1,5 +1,6 @@
 -- SPDX-License-Identifier: MIT
 -- The steps of the code, over plain variables. Assumes nothing.
+use Rattle.header.specs.Header.{header_of}
 use Rattle.std.specs.Prelude.{Option, None}
 use mathlib.Core.Path.{◌≡◌, sym, ◌∙◌, ap}
 use Prim.Native.Nat.{ℕ}

@@ -12,7 +12,7 @@ use lib.ListN.{length, get_or, set, take, drop, length-take, length-drop}
 use borrow.Author.Tests.{lt-ltb, le-ltb, ltb-true, ltb-false, not-true, not-false}
 use Rattle.octets.specs.Octets.{Octets, pick}
 use Rattle.octets.proofs.Laws.{part-rest}
-use Rattle.header.specs.Header.{max_header, read_header}
+use Rattle.header.specs.Header.{header_of, max_header, read_header}
 use Rattle.header.specs.Answers.{header_invalid, room_short, read_kid}
 use Rattle.header.specs.declared.Kid.{Kid}
 use Rattle.header.specs.declared.Ctr.{Ctr}
@@ -44,8 +44,6 @@ use Rattle.window.specs.declared.Window.{Window}
 use Rattle.judge_open.specs.Open.{plain_of, plain_length, decrypted, open_causes, causes_of_open, open_at, opening}
 use Rattle.judge_open.specs.Inner.Counters.{counter_answer}
 use Rattle.judge_open.specs.Inner.Rooms.{room_for}
-use Rattle.judge_open.specs.declared.Room.{Room}
-use Rattle.judge_open.specs.declared.Room.TheVariants.{Enough, Short}
 
 -- ---- decryption with a held record
 
@@ -62,25 +60,25 @@ module _ (s : Suite) (n : ℕ) (frame : List ℕ) where
 
 -- ---- the room
 
-pub room-short : (room n : ℕ) → room < n → Short ≡ room_for room n
+pub room-short : (room n : ℕ) → room < n → None ≡ room_for room n
 unfolding room_for
 room-short room n h = rw (lt-ltb room n h)
 
-pub room-enough : (room n : ℕ) → n ≤ room → Enough n ≡ room_for room n
+pub room-enough : (room n : ℕ) → n ≤ room → Some n ≡ room_for room n
 unfolding room_for
 room-enough room n h = rw (le-ltb room n h)
 
 -- what a room's answer says
-pub room-told : (room n : ℕ) (r : Room) → r ≡ room_for room n → ((r ≡ Short) → room < n) × ((k : ℕ) → r ≡ Enough k → (k ≡ n) × (n ≤ room))
+pub room-told : (room n : ℕ) (r : Option ℕ) → r ≡ room_for room n → ((r ≡ None) → room < n) × ((k : ℕ) → r ≡ Some k → (k ≡ n) × (n ≤ room))
 unfolding room_for
 room-told room n r e = by (two (ltb room n))
   where
-    by : Two (ltb room n) → ((r ≡ Short) → room < n) × ((k : ℕ) → r ≡ Enough k → (k ≡ n) × (n ≤ room))
+    by : Two (ltb room n) → ((r ≡ None) → room < n) × ((k : ℕ) → r ≡ Some k → (k ≡ n) × (n ≤ room))
     by (yes' t) =
-        let s : r ≡ Short = e ∙ rw t in
+        let s : r ≡ None = e ∙ rw t in
         (λ w. ltb-true room n t, λ k w. let z : ◌≡◌ {A = ℕ} 0 1 = cc in absurd (omega arith))
     by (no' t) =
-        let s : r ≡ Enough n = e ∙ rw t in
+        let s : r ≡ Some n = e ∙ rw t in
         (λ w. let z : ◌≡◌ {A = ℕ} 0 1 = cc in absurd (omega arith), λ k w. (cc, ltb-false room n t))
 
 -- ---- the counter

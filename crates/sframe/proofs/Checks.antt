@@ -13,7 +13,7 @@ use lib.Seq.{take_at, drop_at, length-take-le}
 use borrow.Author.Tests.{le-ltb, eq-eqb, not-false}
 use Rattle.octets.specs.Octets.{Octets, pick, same, pasted}
 use Rattle.octets.proofs.Laws.{pasted-front, same_refl, same-eq}
-use Rattle.header.specs.Header.{read_header}
+use Rattle.header.specs.Header.{header_of, read_header}
 use Rattle.header.specs.Answers.{read_kid}
 use Rattle.header.specs.declared.Header.{Header}
 use Rattle.header.proofs.Laws.{HeaderRead, header_read}

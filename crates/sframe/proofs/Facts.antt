@@ -9,7 +9,7 @@ use lib.ListN.{length, take, length-append}
 use Rattle.octets.specs.Octets.{Octets, pick, bytes}
 use Rattle.octets.proofs.Laws.{octets-append, bytes-octets}
 use Rattle.header.specs.Answers.{read_kid, read_ctr}
-use Rattle.header.specs.Header.{header, read_header, config, width}
+use Rattle.header.specs.Header.{header_of, header, read_header, config, width}
 use Rattle.header.proofs.Laws.{field-bits, read-header, header-length}
 use Rattle.answers.specs.Limits.{max_plaintext, max_metadata}
 use Rattle.suites.specs.Suites.{suite_of}

@@ -10,7 +10,7 @@ use lib.Seq.{take-length, take-append_seam, take_at}
 use Rattle.octets.specs.Octets.{Octets}
 use Rattle.octets.proofs.Laws.{octets-append}
 use Rattle.header.specs.Answers.{read_number}
-use Rattle.header.specs.Header.{header}
+use Rattle.header.specs.Header.{header_of, header}
 use Rattle.header.proofs.Laws.{header-begins}
 use Rattle.store.specs.Cipher.{Cipher}
 use Rattle.answers.proofs.Basics.{Two, yes', no', two}

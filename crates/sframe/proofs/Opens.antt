@@ -14,7 +14,7 @@ use borrow.Author.Tests.{le-leb, le-ltb, lt-ltb, ltb-true, ltb-false, eq-eqb}
 use Rattle.octets.specs.Octets.{Octets, pick}
 use Rattle.octets.proofs.Laws.{octets-append, octets-take, octets-drop}
 use Rattle.header.specs.Answers.{header_invalid, room_short, read_number, read_kid, read_ctr, read_length}
-use Rattle.header.specs.Header.{read_header}
+use Rattle.header.specs.Header.{header_of, read_header}
 use Rattle.header.specs.declared.Header.{Header}
 use Rattle.header.proofs.Laws.{header_read}
 use Rattle.answers.specs.Answers.{store_invalid, kid_missing, role_refused, input_too_long, frame_short, tag_differs, already_opened, counter_too_old, ◌if◌, Outcome, first}

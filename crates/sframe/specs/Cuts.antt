@@ -3,7 +3,7 @@
 use Rattle.std.specs.Prelude.{◌≡◌, List, [], ◌∷◌, ◌++◌, ◌↔◌, ℕ, ◌≤◌, length, take}
 use Rattle.octets.specs.Octets.{Octets}
 use Rattle.answers.specs.Answers.{done, Outcome}
-use Rattle.header.specs.Header.{read_header}
+use Rattle.header.specs.Header.{header_of, read_header}
 use Rattle.pieces.specs.Calls.{seal_piece, seal_end, check_piece, check_end}
 use Rattle.key_record.specs.Record.{ReceivingKey}
 use Rattle.key_record.specs.Suites.{tag_size}

@@ -4,7 +4,7 @@
 use Rattle.std.specs.Prelude.{◌≡◌, Bool, true, false, List, [], ◌∷◌, ◌++◌, ◌↔◌, ℕ, ◌+◌, ◌-◌, ◌≤◌, eqb, length, get_or, take, drop}
 use Rattle.octets.specs.Octets.{Octets, pick}
 use Rattle.header.specs.Answers.{read_kid, read_ctr, done, read_number}
-use Rattle.header.specs.Header.{header, read_header}
+use Rattle.header.specs.Header.{header_of, header, read_header}
 use Rattle.answers.specs.Answers.{already_opened, counter_too_old, Outcome}
 use Rattle.store.specs.Cipher.{Cipher}
 use Rattle.key_record.specs.Record.{ReceivingKey, empty, receiving, holds}
