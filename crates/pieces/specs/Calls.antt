@@ -2,8 +2,8 @@
 -- The calls on a running state: number, length, state and room afterwards, for every input. The causes of refusal stand in
 -- the order in which they are tried.
 -- Assumes nothing.
-use Rattle.std.specs.Prelude.{Option, Some, None, Bool, not, List, [], ◌∷◌, ◌++◌, ℕ, zero, suc, ◌+◌, ltb, eqb, length, drop}
-use Rattle.octets.specs.Octets.{pick, same, pasted}
+use Rattle.std.specs.Prelude.{Option, Some, None, Bool, not, List, [], ◌∷◌, ℕ, zero, suc, ◌+◌, ltb, eqb, length}
+use Rattle.octets.specs.Octets.{same, pasted}
 use Rattle.header.specs.Answers.{room_short}
 use Rattle.answers.specs.Answers.{frame_short, tag_differs, state_mismatch, Cause, ◌if◌, first}
 use Rattle.suites.specs.declared.sizes.Suite.{Suite}

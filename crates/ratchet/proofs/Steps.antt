@@ -1,14 +1,14 @@
 -- SPDX-License-Identifier: MIT
 -- The steps of the code, over plain variables. Assumes nothing.
 use Rattle.std.specs.Prelude.{Some, None}
-use mathlib.Core.Path.{◌≡◌, refl, sym, ◌∙◌, ap, ap₂}
-use mathlib.Core.Bool.{Bool, true, false}
+use mathlib.Core.Path.{◌≡◌, refl, sym, ◌∙◌, ap}
+use mathlib.Core.Bool.{true}
 use mathlib.Core.List.{List, [], ◌++◌, append-nil}
 use Prim.Native.Nat.{ℕ, zero, suc, ◌+◌, ◌*◌, ◌%◌, ◌^◌, ◌-◌, ◌<◌, ◌≤◌}
 use native.Mathlib.Nat.{sub-zero, mod-eq_of_lt, one-mul, lt_of_le_of_lt, le-add_right}
 use native.Mathlib.Numerals.{add-one}
 use native.Mathlib.Omega.{arith}
-use lib.Dec.{leb, ltb}
+use lib.Dec.{leb}
 use lib.ListN.{length, take, drop, drop_of_length-le}
 use lib.Pow.{pow-lt, pow_pos}
 use lib.Seq.{take_at, length-take-le}
@@ -21,7 +21,7 @@ use Rattle.answers.proofs.Basics.{settled-refused, settled-done, passes, both_tr
 use Rattle.suites.specs.Suites.{suite_of, Nh}
 use Rattle.suites.specs.declared.sizes.Suite.{Suite}
 use Rattle.ratchet.specs.Ratchet.{next_key, walked, ratchet_kid}
-use Rattle.ratchet.specs.Calls.{max_steps, max_bits, key_after, is_known, walk_causes, walk_with, walk, kid_causes, given, kid_number, kid_given}
+use Rattle.ratchet.specs.Calls.{max_steps, max_bits, walk_causes, walk_with, walk, kid_causes, kid_number, kid_given}
 use Rattle.ratchet.specs.Inner.Sizes.{walked_size}
 use Rattle.suites.proofs.Laws.{Nh-most}
 use Rattle.ratchet.proofs.Laws.{next-length, walked-length, size-accepted, kid-fits, kid-past}

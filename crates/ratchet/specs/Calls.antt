@@ -2,7 +2,9 @@
 -- The two calls of the ratchet: number, result and room afterwards, for every input. The causes of refusal stand in the order in
 -- which they are tried. Assumes nothing.
 use Rattle.suites.specs.declared.sizes.Suite.{Suite}
-use Rattle.std.specs.Prelude.{Option, Some, None, Bool, true, false, not, List, [], ◌∷◌, ◌++◌, ℕ, zero, suc, ◌^◌, leb, ltb, length, drop}
+use Rattle.std.specs.Prelude.{Result, Ok, Err, Option, Some, None, Bool, true, false, not, List, [], ◌∷◌, ◌++◌, ℕ, zero, suc, ◌^◌, leb, ltb, length, drop}
+use Rattle.header.specs.declared.Kid.{Kid}
+use Rattle.answers.specs.declared.Refusal.{Refusal}
 use Rattle.octets.specs.Octets.{both}
 use Rattle.header.specs.Answers.{room_short}
 use Rattle.answers.specs.Answers.{suite_unknown, base_key_size, ratchet_kid_invalid, steps_too_many, Cause, ◌if◌, first, Outcome, settled}
@@ -65,3 +67,8 @@ kid_number generation step bits = first (kid_causes generation step bits)
 
 unfoldable pub kid_given : (generation step bits : ℕ) → ℕ
 kid_given generation step bits = given (kid_number generation step bits) (ratchet_kid generation step bits)
+
+-- The KID that a call answers with: 0 where it is refused.
+abbrev pub kid_in : Result Kid Refusal → ℕ
+kid_in (Ok kid) = kid.0
+kid_in (Err r) = 0

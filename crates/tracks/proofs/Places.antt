@@ -4,7 +4,7 @@ use Rattle.std.specs.Prelude.{Option, Some}
 use mathlib.Core.Path.{◌≡◌, sym, ◌∙◌, ap}
 use mathlib.Core.Bool.{Bool, true, false, not}
 use mathlib.Core.List.{List}
-use Prim.Native.Nat.{ℕ, zero, suc, ◌+◌, ◌*◌, ◌/◌, ◌%◌, ◌-◌, ◌<◌, ◌≤◌}
+use Prim.Native.Nat.{ℕ, zero, suc, ◌+◌, ◌*◌, ◌/◌, ◌-◌, ◌<◌, ◌≤◌}
 use native.Mathlib.Omega.{arith}
 use lib.ListN.{length, get_or, set, take, drop, length-take, length-drop}
 use lib.Seq.{drop-drop}
@@ -13,7 +13,7 @@ use Rattle.octets.specs.Octets.{Octets, both}
 use Rattle.answers.proofs.Basics.{both_true, told-true}
 use Rattle.track_record.specs.Layout.{record_size, encode, decode, obeys}
 use Rattle.track_record.specs.Record.{TrackId, TrackRecord, empty}
-use Rattle.tracks.specs.Tracks.{length_right, encode_all, decode_all, all_obey, records, sound}
+use Rattle.tracks.specs.Tracks.{length_right, encode_all, all_obey, records, sound}
 use Rattle.tracks.specs.Table.{apart}
 use Rattle.tracks.specs.Inner.Places.{Whole, Within, RowOf, FoundIn, FreeIn}
 use Rattle.tracks.proofs.Stores.{Stored, sound-stored, stored-length, encode-at, row-changed}

@@ -3,7 +3,7 @@
 use Rattle.std.specs.Prelude.{Option, Some, None}
 use mathlib.Core.Path.{◌≡◌, refl, sym, ◌∙◌, ap}
 use mathlib.Core.Bool.{Bool, true, false, not}
-use mathlib.Core.List.{List, []}
+use mathlib.Core.List.{List}
 use Prim.Native.Nat.{ℕ}
 use native.Mathlib.Omega.{arith}
 use lib.ListN.{length, get_or, set, replicate}
@@ -16,9 +16,9 @@ use Rattle.track_record.specs.declared.Held.{Held}
 use Rattle.track_record.specs.declared.Held.TheVariants as Variants
 use Rattle.track_record.specs.declared.Kind.{Kind}
 use Rattle.track_record.specs.Record as Records
-use Rattle.tracks.specs.Calls.{stored, make, remove_causes, remove_at, remove}
+use Rattle.tracks.specs.Calls.{make, remove_causes, remove_at, remove}
 use Rattle.tracks.specs.Tracks.{length_right, encode_all, records, sound}
-use Rattle.tracks.specs.Table.{get, put, apart}
+use Rattle.tracks.specs.Table.{get, apart}
 use Rattle.tracks.specs.Inner.Places.{FoundIn}
 use Rattle.track_record.proofs.Records.{holds-some}
 use Rattle.tracks.proofs.Stores.{sound-stored}

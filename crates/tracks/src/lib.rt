@@ -2,7 +2,7 @@
 // The track store: records, one after the other, in bytes that the caller lends.
 #![tactic(auto)]
 
-ghost use Rattle.std.specs.Prelude.{◌≡◌, true, false, ◌<◌, ◌≤◌, length, get_or, set};
+ghost use Rattle.std.specs.Prelude.{◌≡◌, true, false, ◌+◌, ◌*◌, ◌<◌, ◌≤◌, length, get_or, set};
 ghost use Rattle.answers.specs.Limits.{base_key_most};
 ghost use Rattle.secure_objects.specs.Objects.{name_most, object_ceiling, counter};
 ghost use Rattle.track_record.specs.Layout.{record_size, decode};
@@ -10,7 +10,7 @@ ghost use Rattle.track_record.specs.Record.{track_id, empty, is_empty, is_retire
 ghost use Rattle.tracks.specs.Calls.{make, remove};
 ghost use Rattle.tracks.specs.Tracks.{length_right, encode_all, records, sound};
 ghost use Rattle.tracks.specs.Table.{alone, apart};
-ghost use Rattle.tracks.specs.Inner.Places.{Whole, rows_obey, Within, RowOf, FoundIn, FreeIn};
+ghost use Rattle.tracks.specs.Inner.Places.{Whole, part_at, rows_obey, Within, RowOf, FoundIn, FreeIn};
 
 use answers::{DONE, KID_MISSING, ROLE_REFUSED, STORE_INVALID};
 use secure_objects::{GroupId, KeyId, ObjectId};
@@ -32,18 +32,23 @@ fn length_right(n: usize) -> bool
     n % RECORD_SIZE == 0
 }
 
+// The bytes where record i stands.
+fn part(store: &[u8], i: usize) -> &[u8]
+    requires { (i + 1) * record_size ≤ length store.now }
+    ensures { (result.now ≡ part_at store.now i) × (length result.now ≡ record_size) }
+{
+    &store[i * RECORD_SIZE..(i + 1) * RECORD_SIZE]
+}
+
 // Whether the bytes of every record obey the layout.
 fn rows_obey(store: &[u8]) -> bool
     requires { Whole store.now }
     ensures { result ≡ rows_obey store.now }
 {
-    let mut at = 0;
-    while at < store.len() {
-        let end = at + RECORD_SIZE;
-        if !judging::obeys_layout(&store[at..end]) {
+    for i in 0..store.len() / RECORD_SIZE {
+        if !judging::obeys_layout(part(store, i)) {
             return false;
         }
-        at = end;
     }
     true
 }
@@ -53,13 +58,10 @@ pub fn find(store: &[u8], name: &[u8], id: KeyId) -> Option<usize>
     requires { Whole store.now }
     ensures { FoundIn result (track_id name.now id.0) (records store.now) }
 {
-    let mut at = 0;
-    while at < store.len() {
-        let end = at + RECORD_SIZE;
-        if row::holds(&store[at..end], name, id) {
-            return Some(at / RECORD_SIZE);
+    for i in 0..store.len() / RECORD_SIZE {
+        if row::holds(part(store, i), name, id) {
+            return Some(i);
         }
-        at = end;
     }
     None
 }
@@ -69,13 +71,10 @@ pub fn find_free(store: &[u8]) -> Option<usize>
     requires { Whole store.now }
     ensures { FreeIn result (records store.now) }
 {
-    let mut at = 0;
-    while at < store.len() {
-        let end = at + RECORD_SIZE;
-        if row::is_empty(&store[at..end]) {
-            return Some(at / RECORD_SIZE);
+    for i in 0..store.len() / RECORD_SIZE {
+        if row::is_empty(part(store, i)) {
+            return Some(i);
         }
-        at = end;
     }
     None
 }
@@ -99,13 +98,10 @@ fn tracks_apart(store: &[u8]) -> bool
     requires { Whole store.now }
     ensures { result ≡ apart (records store.now) }
 {
-    let mut at = 0;
-    while at < store.len() {
-        let end = at + RECORD_SIZE;
-        if !alone_in(&store[at..end], &store[end..]) {
+    for i in 0..store.len() / RECORD_SIZE {
+        if !alone_in(part(store, i), &store[(i + 1) * RECORD_SIZE..]) {
             return false;
         }
-        at = end;
     }
     true
 }
@@ -128,9 +124,7 @@ pub fn row_at(store: &[u8], i: usize) -> &[u8]
     requires { Within store.now i }
     ensures { RowOf store.now i result.now }
 {
-    let at = i * RECORD_SIZE;
-    let end = at + RECORD_SIZE;
-    &store[at..end]
+    part(store, i)
 }
 
 // Writes a new track to record i, which is empty.

@@ -4,7 +4,6 @@ use Rattle.tracks.proofs.Places.{tested-sound, tested-whole, found_within}
 use Rattle.track_record.specs.Record.{track_id}
 use Rattle.octets.specs.Octets.{Octets}
 use native.Mathlib.Omega.{arith}
-use mathlib.Core.Bool.{true}
 use mathlib.Core.Path.{ap}
 use mathlib.Core.Bool.{not}
 use Rattle.tracks.proofs.remove.Goals as goal

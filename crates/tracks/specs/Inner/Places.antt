@@ -1,7 +1,7 @@
 -- SPDX-License-Identifier: MIT
 -- Cited by inner contracts alone: a track store's records by number, and their bytes.
 -- Assumes nothing.
-use Rattle.std.specs.Prelude.{Option, Some, None, ◌≡◌, Bool, true, false, List, ℕ, ◌/◌, ◌%◌, ◌<◌, length, get_or}
+use Rattle.std.specs.Prelude.{Option, Some, None, ◌≡◌, Bool, true, false, List, ℕ, ◌*◌, ◌/◌, ◌%◌, ◌<◌, length, get_or, take, drop}
 use Rattle.track_record.specs.Layout.{record_size, decode}
 use Rattle.track_record.specs.Record.{TrackId, TrackRecord, empty, is_empty, holds}
 use Rattle.track_record.specs.Inner.Rows.{Row}
@@ -11,6 +11,10 @@ use Rattle.tracks.specs.Tracks.{all_obey, records, sound}
 -- Whole records.
 abbrev pub Whole : List ℕ → Type 0
 Whole s = length s % record_size ≡ 0
+
+-- The bytes where record i of a store stands.
+abbrev pub part_at : (s : List ℕ) (i : ℕ) → List ℕ
+part_at s i = take record_size (drop (i * record_size) s)
 
 -- Each of a store's records obeys the layout.
 abbrev pub rows_obey : List ℕ → Bool
