@@ -4,8 +4,8 @@ ghost use Rattle.std.specs.Prelude.{◌≡◌, ◌+◌, ◌*◌, ◌≤◌, leng
 ghost use Rattle.hmac.specs.Limits.{largest};
 ghost use Rattle.sha2_common.specs.Limits.{maximum};
 
-use hmac::{LARGEST, hkdf_expand_sha256, hkdf_extract_sha256, hmac_sha256, hmac_sha512};
-use running_hash::{sha256_of, sha512_of};
+use hmac::{LARGEST, hkdf_expand, hkdf_extract, hmac_of};
+use running_hash::digest;
 use sha2_common::MAXIMUM;
 use sha256::Sha256;
 use sha512::Sha512;
@@ -88,8 +88,8 @@ pub fn count(out: &mut [u8], first: u8) {
 fn pieces(t: Tally, first: &[u8], second: &[u8], sha256: &[u8], sha512: &[u8]) -> Tally
     requires { length first.now + length second.now ≤ maximum }
 {
-    let short = sha256_of(first, second);
-    let long = sha512_of(first, second);
+    let short = digest::<Sha256, _, _>(first, second);
+    let long = digest::<Sha512, _, _>(first, second);
     t.plus(is_hex(&short, sha256)).plus(is_hex(&long, sha512))
 }
 
@@ -170,8 +170,8 @@ pub fn hmac_case(t: Tally, key: &[u8], text: &[u8], sha256: &[u8], sha512: &[u8]
     if LARGEST < text.len() {
         return t.plus(false);
     }
-    let short = hmac_sha256(key, text);
-    let long = hmac_sha512(key, text);
+    let short = hmac_of::<Sha256, _, _>(key, text);
+    let long = hmac_of::<Sha512, _, _>(key, text);
     t.plus(front_is_hex(&short, sha256))
         .plus(front_is_hex(&long, sha512))
 }
@@ -180,7 +180,7 @@ pub fn hmac_case(t: Tally, key: &[u8], text: &[u8], sha256: &[u8], sha512: &[u8]
 fn expands(key: &[u8], info: &[u8], okm: &[u8], out: &mut [u8]) -> bool
     requires { (length key.now ≤ 32) × (length info.now ≤ largest) × (length out.old ≤ 82) }
 {
-    hkdf_expand_sha256(key, info, out);
+    hkdf_expand::<Sha256, _, _>(key, info, out);
     is_hex(out, okm)
 }
 
@@ -199,7 +199,7 @@ pub fn hkdf_case(t: Tally, ikm: &[u8], salt: &[u8], info: &[u8], prk: &[u8], okm
     if 82 < n {
         return t.plus(false);
     }
-    let key = hkdf_extract_sha256(salt, ikm);
+    let key = hkdf_extract::<Sha256, _, _>(salt, ikm);
     let mut out = [0u8; 82];
     let expanded = expands(&key, info, okm, &mut out[..n]);
     t.plus(is_hex(&key, prk)).plus(expanded)

@@ -11,10 +11,7 @@ ghost use Rattle.hmac.specs.Hkdf.{extract, expand, limit};
 ghost use Rattle.hmac.specs.Limits.{largest};
 ghost use Rattle.sframe_test.specs.Judged.{Judged, HashTakes, HmacTakes, HkdfTakes};
 
-use hmac::{
-    HmacSha256, HmacSha512, LARGEST, hkdf_expand_sha256, hkdf_expand_sha512, hkdf_extract_sha256,
-    hkdf_extract_sha512,
-};
+use hmac::{HmacSha256, HmacSha512, LARGEST, hkdf_expand, hkdf_extract};
 use octets::copy;
 use sha2_common::MAXIMUM;
 use sha256::Sha256;
@@ -100,8 +97,8 @@ pub fn sframe_test_hkdf_sha256(ikm: &[u8], info: &[u8], out: &mut [u8]) -> u32
     if 8160 < out.len() {
         return 1;
     }
-    let prk = hkdf_extract_sha256(b"", ikm);
-    hkdf_expand_sha256(&prk, info, out);
+    let prk = hkdf_extract::<Sha256, _, _>(b"", ikm);
+    hkdf_expand::<Sha256, _, _>(&prk, info, out);
     0
 }
 
@@ -185,7 +182,7 @@ pub fn sframe_test_hkdf_sha512(ikm: &[u8], info: &[u8], out: &mut [u8]) -> u32
     if 16320 < out.len() {
         return 1;
     }
-    let prk = hkdf_extract_sha512(b"", ikm);
-    hkdf_expand_sha512(&prk, info, out);
+    let prk = hkdf_extract::<Sha512, _, _>(b"", ikm);
+    hkdf_expand::<Sha512, _, _>(&prk, info, out);
     0
 }

@@ -2,11 +2,17 @@
 // The Secure Hash Standard, FIPS 180-4: what SHA-256 and SHA-512 share.
 #![tactic(auto)]
 
+mod rounds;
+mod running;
+
 ghost use Rattle.std.specs.Prelude.{◌≡◌, ℕ, ◌+◌, ◌*◌, ◌<◌, ◌≤◌, List, [], ◌++◌, length};
 ghost use Rattle.sha2_common.specs.Sha2.{Params, hash};
 ghost use Rattle.sha2_common.specs.Limits.{maximum};
 ghost use Rattle.sha2_common.specs.Running.{State, fresh, fed, finished};
 ghost use Rattle.sha2_common.specs.Fed.{Fed};
+
+pub use rounds::{Word, Words};
+pub use running::{Running, Value, room};
 
 // The most bytes that are hashed as one message.
 pub const MAXIMUM: usize = 0x1_0000_0000;

@@ -15,4 +15,4 @@ returns-then-out-gt16320 c = inr (refl, (λ t. omega arith), refl)
 
 pub returns : goal.returns
 returns c =
-    inl (refl, record { keyed = omega arith; informed = omega arith; limited = omega arith }, rw c.hkdf_extract_sha512-prk.ensures.0 at c.hkdf_expand_sha512.ensures)
+    inl (refl, record { keyed = omega arith; informed = omega arith; limited = omega arith }, rw c.hkdf_extract-prk.ensures.0 at c.hkdf_expand.ensures)
