@@ -7,7 +7,6 @@ use mathlib.Core.List.{List, [], ◌++◌}
 use Prim.Native.Nat.{ℕ, zero, suc, ◌-◌, ◌<◌, ◌≤◌}
 use native.Mathlib.Nat.{sub-zero}
 use native.Mathlib.Omega.{arith}
-use lib.Dec.{ltb}
 use lib.ListN.{length, get_or, take, length-take}
 use borrow.Author.Tests.{lt-ltb, le-ltb}
 use Rattle.octets.specs.Octets.{pasted}
@@ -29,7 +28,6 @@ use Rattle.store.specs.Table.{get}
 use Rattle.store.specs.Inner.Places.{RowOf, FoundIn}
 use Rattle.begin_state.specs.Begin.{first_state}
 use Rattle.begin_check.specs.Check.{check_causes, check_at, check_begin}
-use Rattle.begin_check.proofs.Checks.{success}
 
 -- what a call answers, and what it leaves in the state
 abbrev Leaves : Outcome → ℕ → List ℕ → Type 0

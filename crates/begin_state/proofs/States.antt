@@ -7,7 +7,6 @@ use mathlib.Core.List.{List, []}
 use Prim.Native.Nat.{ℕ}
 use Rattle.octets.specs.Octets.{pasted}
 use Rattle.suites.specs.Derivation.{nonce}
-use Rattle.suites.specs.Suites.{suite_of as named}
 use Rattle.suites.specs.declared.sizes.Suite.{Suite}
 use Rattle.piece_line.specs.Line.{begun}
 use Rattle.key_record.specs.Record.{KeyRecord, empty, sending, receiving, retired, is_empty, suite_of, salt_of, key_of}
