@@ -5,11 +5,7 @@ ghost use Rattle.hmac.specs.Limits.{largest};
 
 use hmac::{LARGEST, hkdf_expand, hkdf_extract, hmac_of};
 use running_hash::digest;
-<<<<<<< HEAD
-use sha2_common::MAXIMUM;
-=======
 use sha2_common::{Hash, MAXIMUM};
->>>>>>> 93a8e98583d6daf147f0c2ae7ae4004380cb4d35
 use sha256::Sha256;
 use sha512::Sha512;
 use std::num::wrapping_add_u8;
@@ -41,21 +37,11 @@ pub fn count(out: &mut [u8], first: u8) {
     }
 }
 
-<<<<<<< HEAD
-// Both digests of a message in two pieces, which are fed to lent states.
-fn pieces(t: Tally, first: &[u8], second: &[u8], sha256: &[u8], sha512: &[u8]) -> Tally
-    requires { length first.now + length second.now ≤ maximum }
-{
-    let short = digest::<Sha256, _, _>(first, second);
-    let long = digest::<Sha512, _, _>(first, second);
-    t.plus(is_hex(&short, sha256)).plus(is_hex(&long, sha512))
-=======
 // A message, and its digests in hexadecimal.
 pub struct Message<'a> {
     pub text: &'a [u8],
     pub sha256: &'a [u8],
     pub sha512: &'a [u8],
->>>>>>> 93a8e98583d6daf147f0c2ae7ae4004380cb4d35
 }
 
 // Both digests of a message by value and whole.
@@ -118,13 +104,8 @@ pub fn hmac_case(t: Tally, key: &[u8], text: &[u8], sha256: &[u8], sha512: &[u8]
     if LARGEST < text.len() {
         return t.plus(false);
     }
-<<<<<<< HEAD
-    let short = hmac_of::<Sha256, _, _>(key, text);
-    let long = hmac_of::<Sha512, _, _>(key, text);
-=======
     let short = hmac_of::<Sha256, 64, 32>(key, text);
     let long = hmac_of::<Sha512, 128, 64>(key, text);
->>>>>>> 93a8e98583d6daf147f0c2ae7ae4004380cb4d35
     t.plus(front_is_hex(&short, sha256))
         .plus(front_is_hex(&long, sha512))
 }
@@ -133,11 +114,7 @@ pub fn hmac_case(t: Tally, key: &[u8], text: &[u8], sha256: &[u8], sha512: &[u8]
 fn expands(key: &[u8], info: &[u8], okm: &[u8], out: &mut [u8]) -> bool
     requires { (length key.now ≤ 32) × (length info.now ≤ largest) × (length out.old ≤ 82) }
 {
-<<<<<<< HEAD
-    hkdf_expand::<Sha256, _, _>(key, info, out);
-=======
     hkdf_expand::<Sha256, 64, 32>(key, info, out);
->>>>>>> 93a8e98583d6daf147f0c2ae7ae4004380cb4d35
     is_hex(out, okm)
 }
 
@@ -156,11 +133,7 @@ pub fn hkdf_case(t: Tally, ikm: &[u8], salt: &[u8], info: &[u8], prk: &[u8], okm
     if 82 < n {
         return t.plus(false);
     }
-<<<<<<< HEAD
-    let key = hkdf_extract::<Sha256, _, _>(salt, ikm);
-=======
     let key = hkdf_extract::<Sha256, 64, 32>(salt, ikm);
->>>>>>> 93a8e98583d6daf147f0c2ae7ae4004380cb4d35
     let mut out = [0u8; 82];
     let expanded = expands(&key, info, okm, &mut out[..n]);
     t.plus(is_hex(&key, prk)).plus(expanded)

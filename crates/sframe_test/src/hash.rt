@@ -10,12 +10,8 @@ ghost use Rattle.hmac.specs.Hkdf.{extract, expand, limit};
 ghost use Rattle.hmac.specs.Limits.{largest};
 ghost use Rattle.sframe_test.specs.Judged.{Judged, HashTakes, HmacTakes, HkdfTakes, number_of};
 
-<<<<<<< HEAD
-use hmac::{HmacSha256, HmacSha512, LARGEST, hkdf_expand, hkdf_extract};
-=======
 use crate::Refused;
 use hmac::{Hmac, LARGEST, hkdf_expand, hkdf_extract};
->>>>>>> 93a8e98583d6daf147f0c2ae7ae4004380cb4d35
 use octets::copy;
 use sha2_common::{Hash, MAXIMUM};
 
@@ -119,98 +115,7 @@ pub fn key<H: Hash<BLOCK, DIGEST>, const BLOCK: usize, const DIGEST: usize>(
     if out.len().div_ceil(DIGEST) > 255 {
         return Err(Refused::Input);
     }
-<<<<<<< HEAD
-    let prk = hkdf_extract::<Sha256, _, _>(b"", ikm);
-    hkdf_expand::<Sha256, _, _>(&prk, info, out);
-    0
-}
-
-fn sha512_pieces(message: &[u8], first: usize, second: usize) -> [u8; 64]
-    requires { (first ≤ second) × (second ≤ length message.now) × (length message.now ≤ maximum) }
-    ensures { (result ≡ hash sha512 message.now) × (length result ≡ 64) }
-{
-    let one = Sha512::new().feed(&message[..first]);
-    let two = one.feed(&message[first..second]);
-    two.feed(&message[second..]).finish()
-}
-
-fn hmac_sha512_pieces(key: &[u8], message: &[u8], first: usize, second: usize) -> [u8; 64]
-    requires { (first ≤ second) × (second ≤ length message.now) × (length message.now ≤ largest) × (length key.now ≤ largest) }
-    ensures { (result ≡ hmac sha512 key.now message.now) × (length result ≡ 64) }
-{
-    let one = HmacSha512::new(key).feed(&message[..first]);
-    let two = one.feed(&message[first..second]);
-    two.feed(&message[second..]).finish()
-}
-
-pub fn sframe_test_sha512(message: &[u8], first: usize, second: usize, digest: &mut [u8]) -> u32
-    ensures { Judged 0 (HashTakes maximum 64 message.now first second digest.old) (digest.new ≡ hash sha512 message.now ++ drop 64 digest.old) (digest.new ≡ digest.old) result }
-{
-    if MAXIMUM < message.len() {
-        return 1;
-    }
-    if message.len() < second {
-        return 1;
-    }
-    if second < first {
-        return 1;
-    }
-    if digest.len() < 64 {
-        return 1;
-    }
-    let result = sha512_pieces(message, first, second);
-    copy(digest, &result);
-    0
-}
-
-pub fn sframe_test_hmac_sha512(
-    key: &[u8],
-    message: &[u8],
-    first: usize,
-    second: usize,
-    tag: &mut [u8],
-) -> u32
-    ensures { Judged 0 (HmacTakes largest 64 key.now message.now first second tag.old) (tag.new ≡ hmac sha512 key.now message.now ++ drop 64 tag.old) (tag.new ≡ tag.old) result }
-{
-    if LARGEST < key.len() {
-        return 1;
-    }
-    if LARGEST < message.len() {
-        return 1;
-    }
-    if message.len() < second {
-        return 1;
-    }
-    if second < first {
-        return 1;
-    }
-    if tag.len() < 64 {
-        return 1;
-    }
-    let result = hmac_sha512_pieces(key, message, first, second);
-    copy(tag, &result);
-    0
-}
-
-// HKDF-Extract with no salt, then HKDF-Expand to out's length, which is at most 16320.
-pub fn sframe_test_hkdf_sha512(ikm: &[u8], info: &[u8], out: &mut [u8]) -> u32
-    ensures { Judged 0 (HkdfTakes largest (limit sha512) ikm.now info.now out.old) (out.new ≡ expand sha512 (extract sha512 [] ikm.now) info.now (length out.old)) (out.new ≡ out.old) result }
-{
-    if LARGEST < ikm.len() {
-        return 1;
-    }
-    if LARGEST < info.len() {
-        return 1;
-    }
-    if 16320 < out.len() {
-        return 1;
-    }
-    let prk = hkdf_extract::<Sha512, _, _>(b"", ikm);
-    hkdf_expand::<Sha512, _, _>(&prk, info, out);
-    0
-=======
     let prk = hkdf_extract::<H, BLOCK, DIGEST>(b"", ikm);
     hkdf_expand::<H, BLOCK, DIGEST>(&prk, info, out);
     Ok(())
->>>>>>> 93a8e98583d6daf147f0c2ae7ae4004380cb4d35
 }

@@ -14,9 +14,5 @@ pub returns-then-out-gt8160 : goal.returns-then-out-gt8160
 returns-then-out-gt8160 g c = inr (refl, (λ t. omega arith), refl)
 
 pub returns : goal.returns
-<<<<<<< HEAD:crates/sframe_test/proofs/hash/sframe_test_hkdf_sha256/Answers.antt
-returns c =
-=======
 returns g c =
->>>>>>> 93a8e98583d6daf147f0c2ae7ae4004380cb4d35:crates/sframe_test/proofs/hash/key/Answers.antt
     inl (refl, record { keyed = omega arith; informed = omega arith; limited = omega arith }, rw c.hkdf_extract-prk.ensures.0 at c.hkdf_expand.ensures)
