@@ -2,14 +2,13 @@
 -- Adding a track: number, length, store and room afterwards, for every input. The causes of refusal stand in the order in which
 -- they are tried.
 -- Assumes nothing.
-use Rattle.std.specs.Prelude.{Bool, true, false, not, List, [], ◌∷◌, ℕ, leb, ltb, eqb, length}
+use Rattle.suites.specs.declared.sizes.Suite.{Suite}
+use Rattle.std.specs.Prelude.{Option, Some, None, Bool, true, false, not, List, [], ◌∷◌, ℕ, leb, ltb, eqb, length}
 use Rattle.octets.specs.Octets.{both}
 use Rattle.answers.specs.Answers.{store_invalid, suite_unknown, sending_barred, base_key_size, input_too_long, kid_held, store_full, Cause, ◌if◌, first, Outcome, settled}
 use Rattle.answers.specs.Limits.{base_key_least, base_key_most}
 use Rattle.suites.specs.Suites.{suite_of, number_of}
 use Rattle.suites.specs.declared.sizes.Suite.TheVariants.{Ctr32}
-use Rattle.suites.specs.declared.sizes.Found.{Found}
-use Rattle.suites.specs.declared.sizes.Found.TheVariants.{Known, Unknown}
 use Rattle.secure_objects.specs.Objects.{name_most}
 use Rattle.track_record.specs.Record.{TrackId, TrackRecord, empty, is_empty, fresh}
 use Rattle.track_record.specs.declared.Role.{Role}
@@ -18,9 +17,9 @@ use Rattle.tracks.specs.Calls.{stored}
 use Rattle.tracks.specs.Tracks.{encode_all, records, sound}
 use Rattle.tracks.specs.Table.{get, fill, full}
 
-abbrev pub is_known : Found → Bool
-is_known (Known s) = true
-is_known Unknown = false
+abbrev pub is_known : Option Suite → Bool
+is_known (Some s) = true
+is_known None = false
 
 -- The suite with tags of 4 bytes, which RFC 9605 warns of (7.5): a new track of it is for receiving alone.
 abbrev pub receive_only : ℕ
@@ -43,9 +42,9 @@ add_causes valid role suite base name held rs =
     ∷ []
 
 -- The record of a track just added; there is none with a number that is no suite's.
-unfoldable pub added : (role : Role) (suite : Found) (id : TrackId) (base : List ℕ) → TrackRecord
-added role (Known s) id base = fresh role s id base
-added role Unknown id base = empty
+unfoldable pub added : (role : Role) (suite : Option Suite) (id : TrackId) (base : List ℕ) → TrackRecord
+added role (Some s) id base = fresh role s id base
+added role None id base = empty
 
 unfoldable pub add_at : (valid : Bool) (rs : List TrackRecord) (s : List ℕ) (role : Role) (id : TrackId) (suite : ℕ) (base : List ℕ) → Outcome
 add_at valid rs s role id suite base =

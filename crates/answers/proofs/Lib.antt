@@ -1,3 +1,4 @@
 -- SPDX-License-Identifier: MIT
 pub mod Basics
 pub mod Limits
+pub mod Refusals

@@ -2,49 +2,51 @@
 // Beginning to check a received frame in pieces. The causes are tried in the order 1, 10, 6, 7, 9, 12.
 #![tactic(auto)]
 
-ghost use Rattle.std.specs.Prelude.{◌≡◌, true, false, [], ◌≤◌, length};
+ghost use Rattle.std.specs.Prelude.{Some, ◌≡◌, true, false, [], ◌≤◌, length};
 ghost use Rattle.header.specs.Header.{max_header};
-ghost use Rattle.header.specs.declared.Reading.TheVariants.{Header};
 ghost use Rattle.key_record.specs.Layout.{decode};
 ghost use Rattle.key_record.specs.Record.{is_empty};
 ghost use Rattle.key_record.specs.Inner.Rows.{Row};
+ghost use Rattle.answers.specs.Refusals.{number_of};
 ghost use Rattle.store.specs.Sframe.{sframe};
 ghost use Rattle.begin_check.specs.Check.{check_at, check_begin};
 
-use answers::{
-    DONE, HEADER_INVALID, INPUT_TOO_LONG, KID_MISSING, ROLE_REFUSED, ROOM_SHORT, STORE_INVALID,
-    too_long,
-};
-use header::{Ctr, Kid, Reading};
-use pieces::{CHECKING, STATE_SIZE};
-use store::Place;
+use answers::{Refusal, too_long};
+use header::Header;
+use pieces::{Kind, STATE_SIZE};
 
-// Begins to check a frame, whose header of n bytes has been read, with the record that holds its KID.
+// Begins to check a frame, whose header has been read, with the record that holds its KID.
 fn begin_with(
     row: &[u8],
-    kid: Kid,
-    ctr: Ctr,
-    n: usize,
+    head: Header,
     bytes: &[u8],
     metadata: &[u8],
     announced: usize,
     state: &mut [u8],
-) -> u32
-    requires { (Row row.now) × (is_empty (decode row.now) ≡ false) × (n ≤ max_header) × (n ≤ length bytes.now) }
-    ensures value { result ≡ (check_at sframe true (Header kid ctr n) (decode row.now) [] metadata.now bytes.now announced state.old).number }
-    ensures state_after { state.new ≡ (check_at sframe true (Header kid ctr n) (decode row.now) [] metadata.now bytes.now announced state.old).state }
+) -> Result<(), Refusal>
+    requires { (Row row.now) × (is_empty (decode row.now) ≡ false) × (head.length ≤ max_header) × (head.length ≤ length bytes.now) }
+    ensures value { number_of result ≡ (check_at sframe true (Some head) (decode row.now) [] metadata.now bytes.now announced state.old).number }
+    ensures state_after { state.new ≡ (check_at sframe true (Some head) (decode row.now) [] metadata.now bytes.now announced state.old).state }
 {
     if !key_record::row::is_receiving(row) {
-        return ROLE_REFUSED;
+        return Err(Refusal::RoleRefused);
     }
     if too_long(announced, metadata.len()) {
-        return INPUT_TOO_LONG;
+        return Err(Refusal::InputTooLong);
     }
     if state.len() < STATE_SIZE {
-        return ROOM_SHORT;
+        return Err(Refusal::RoomShort);
     }
-    begin_state::write_first(row, CHECKING, ctr, &bytes[0..n], metadata, announced, state);
-    DONE
+    begin_state::write_first(
+        row,
+        Kind::Checking,
+        head.ctr,
+        &bytes[0..head.length],
+        metadata,
+        announced,
+        state,
+    );
+    Ok(())
 }
 
 // Begins to check a frame with that header and a ciphertext of the announced length: the running state stands at the front of its own
@@ -56,24 +58,18 @@ pub fn check_begin(
     metadata: &[u8],
     announced: usize,
     state: &mut [u8],
-) -> u32
-    ensures value { result ≡ (check_begin sframe store.now metadata.now bytes.now announced state.old).number }
+) -> Result<(), Refusal>
+    ensures value { number_of result ≡ (check_begin sframe store.now metadata.now bytes.now announced state.old).number }
     ensures state_after { state.new ≡ (check_begin sframe store.now metadata.now bytes.now announced state.old).state }
 {
     if !store::is_sound(store) {
-        return STORE_INVALID;
+        return Err(Refusal::StoreInvalid);
     }
-    let Reading::Header(kid, ctr, n) = header::read_header(bytes) else {
-        return HEADER_INVALID;
-    };
-    let Place::At(i) = store::find_near(store, kid, place) else {
-        return KID_MISSING;
-    };
+    let head = header::read_header(bytes).ok_or(Refusal::HeaderInvalid)?;
+    let i = store::find_near(store, head.kid, place).ok_or(Refusal::KidMissing)?;
     begin_with(
         store::row_at(store, i),
-        kid,
-        ctr,
-        n,
+        head,
         bytes,
         metadata,
         announced,

@@ -1,12 +1,13 @@
 -- SPDX-License-Identifier: MIT
 -- The steps of beginning to seal, over plain variables. Assumes nothing.
+use Rattle.std.specs.Prelude.{Option, Some, None}
 use mathlib.Core.Path.{◌≡◌, refl, sym, ◌∙◌, ap, ap₂}
 use mathlib.Core.Bool.{Bool, true, false, not}
 use mathlib.Core.List.{List, ◌++◌}
 use Prim.Native.Nat.{ℕ, ◌-◌, ◌<◌, ◌≤◌}
 use native.Mathlib.Nat.{sub-zero}
 use native.Mathlib.Omega.{arith}
-use lib.Dec.{eqb, ltb}
+use lib.Dec.{eqb}
 use lib.ListN.{length, get_or, set, take, drop, length-take}
 use lib.Seq.{take_at}
 use borrow.Author.Tests.{lt-ltb, le-ltb, eqb-false, ltb-false, not-true, not-false}
@@ -28,8 +29,6 @@ use Rattle.store.specs.Sframe.{sframe}
 use Rattle.store.specs.Store.{encode_all, records, sound}
 use Rattle.store.specs.Table.{get, put, apart}
 use Rattle.store.specs.Inner.Places.{RowOf, FoundIn}
-use Rattle.store.specs.declared.Place.{Place}
-use Rattle.store.specs.declared.Place.TheVariants.{At, Nowhere}
 use Rattle.store.proofs.Stores.{sound-stored, kids-apart, get_fit}
 use Rattle.store.proofs.Tables.{put-at}
 use Rattle.judge_seal.specs.Seal.{seal_causes}
@@ -139,12 +138,12 @@ module _ (s : List ℕ) (kid : ℕ) (metadata : List ℕ) (announced : ℕ) (sta
     unfolding seal_begin begin_at success-of
     outcome-of held g = ap₂ (λ (v : Bool) (h : KeyRecord). begin_at sframe v h (records s) s kid metadata announced state room) is-sound g
 
-    pub begin-missing : (p : Place) → FoundIn p kid (records s) → p ≡ Nowhere → Leaves (seal_begin sframe s kid metadata announced state room) kid_missing 0 s room state
+    pub begin-missing : (p : Option ℕ) → FoundIn p kid (records s) → p ≡ None → Leaves (seal_begin sframe s kid metadata announced state room) kid_missing 0 s room state
     unfolding begin_causes seal_causes first
     begin-missing p f w = let g : get kid (records s) ≡ empty = rw w at f in leaves _ _ (outcome-of empty g)
 
-    module _ (p : Place) (f : FoundIn p kid (records s)) (i : ℕ) (w : p ≡ At i) where
-      found : FoundIn (At i) kid (records s)
+    module _ (p : Option ℕ) (f : FoundIn p kid (records s)) (i : ℕ) (w : p ≡ Some i) where
+      found : FoundIn (Some i) kid (records s)
       found = rw w at f
 
       pub held-there : (l : List ℕ) → RowOf s i l → is_empty (decode l) ≡ false

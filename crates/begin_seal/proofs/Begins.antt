@@ -1,24 +1,22 @@
 -- SPDX-License-Identifier: MIT
 -- What beginning to seal in pieces does to the table, the room and the running state. Assumes nothing.
 use mathlib.Core.Path.{◌≡◌, refl, sym, ◌∙◌, ap, ap₂}
-use mathlib.Core.Bool.{Bool, true, false, not, false≢true}
-use mathlib.Core.List.{List, [], ◌∷◌, ◌++◌}
-use Prim.Native.Nat.{ℕ, ◌+◌, ◌<◌, ◌≤◌}
+use mathlib.Core.Bool.{Bool, true, false≢true}
+use mathlib.Core.List.{List, ◌++◌}
+use Prim.Native.Nat.{ℕ, ◌<◌, ◌≤◌}
 use native.Mathlib.Omega.{arith}
-use lib.Dec.{ltb, eqb}
-use lib.ListN.{length, take, drop}
+use lib.ListN.{length, take}
 use borrow.Author.Tests.{eqb-false, ltb-false}
 use Rattle.octets.specs.Octets.{pasted}
 use Rattle.octets.proofs.Laws.{pasted_at}
 use Rattle.header.specs.Header.{header}
-use Rattle.header.specs.Answers.{room_short}
-use Rattle.answers.specs.Answers.{store_invalid, kid_missing, role_refused, counter_spent, input_too_long, ◌if◌, first, Outcome}
-use Rattle.answers.specs.Limits.{max_plaintext, max_metadata, too_long}
+use Rattle.answers.specs.Answers.{first, Outcome}
+use Rattle.answers.specs.Limits.{max_plaintext, max_metadata}
 use Rattle.answers.proofs.Basics.{RefusalOn, SettledOn, success, refusal, settle-on}
 use Rattle.answers.proofs.Limits.{not-long}
 use Rattle.piece_line.specs.State.{state_size, sealing}
 use Rattle.store.specs.Cipher.{Cipher}
-use Rattle.key_record.specs.Record.{ceiling, SendingKey, KeyRecord, empty, sending, receiving, retired, is_empty, is_sending, counter_of, advanced, holds}
+use Rattle.key_record.specs.Record.{ceiling, SendingKey, KeyRecord, empty, sending, receiving, retired, counter_of, advanced, holds}
 use Rattle.key_record.proofs.Codec.{Fit}
 use Rattle.store.specs.Store.{encode_all, records, sound}
 use Rattle.store.specs.Table.{get, put}

@@ -10,17 +10,14 @@ ghost use Rattle.piece_line.specs.State.{sealing};
 ghost use Rattle.key_record.specs.Layout.{decode};
 ghost use Rattle.key_record.specs.Record.{is_empty, is_sending, counter_of};
 ghost use Rattle.key_record.specs.Inner.Rows.{Row, counter_left};
+ghost use Rattle.answers.specs.Refusals.{number_of, written_of};
 ghost use Rattle.store.specs.Sframe.{sframe};
 ghost use Rattle.begin_state.specs.Begin.{first_state};
 ghost use Rattle.begin_seal.specs.Begin.{begin_causes, seal_begin};
 
-use answers::{
-    Answer, COUNTER_SPENT, DONE, INPUT_TOO_LONG, KID_MISSING, ROLE_REFUSED, ROOM_SHORT,
-    STORE_INVALID, refused, too_long,
-};
+use answers::{Refusal, too_long};
 use header::{Kid, MAX_HEADER};
-use pieces::{SEALING, STATE_SIZE};
-use store::Place;
+use pieces::{Kind, STATE_SIZE};
 
 // The length of the header of a sending record's next frame.
 fn header_length(row: &[u8], kid: Kid) -> usize
@@ -31,27 +28,34 @@ fn header_length(row: &[u8], kid: Kid) -> usize
     judge_seal::write_next(row, kid, &mut head)
 }
 
-// The number of the first cause for which a held record refuses to begin; 0 where there is none.
-fn judge(row: &[u8], kid: Kid, metadata: usize, announced: usize, room: usize, state: usize) -> u32
+// Why a held record refuses to begin, by the first cause that applies.
+fn judge(
+    row: &[u8],
+    kid: Kid,
+    metadata: usize,
+    announced: usize,
+    room: usize,
+    state: usize,
+) -> Result<(), Refusal>
     requires { (Row row.now) × (is_empty (decode row.now) ≡ false) }
-    ensures { result ≡ first (begin_causes true (decode row.now) kid.0 metadata announced room state) }
+    ensures { number_of result ≡ first (begin_causes true (decode row.now) kid.0 metadata announced room state) }
 {
     if !key_record::row::is_sending(row) {
-        return ROLE_REFUSED;
+        return Err(Refusal::RoleRefused);
     }
     if !key_record::row::counter_left(row) {
-        return COUNTER_SPENT;
+        return Err(Refusal::CounterSpent);
     }
     if too_long(announced, metadata) {
-        return INPUT_TOO_LONG;
+        return Err(Refusal::InputTooLong);
     }
     if room < header_length(row, kid) {
-        return ROOM_SHORT;
+        return Err(Refusal::RoomShort);
     }
     if state < STATE_SIZE {
-        return ROOM_SHORT;
+        return Err(Refusal::RoomShort);
     }
-    DONE
+    Ok(())
 }
 
 // Writes header and running state of a record's next sealing, where nothing is against it.
@@ -72,7 +76,15 @@ fn write_line(
     let mut head = [0u8; MAX_HEADER];
     let n = judge_seal::write_next(row, kid, &mut head);
     let ctr = key_record::row::next_of(row);
-    begin_state::write_first(row, SEALING, ctr, &head[0..n], metadata, announced, state);
+    begin_state::write_first(
+        row,
+        Kind::Sealing,
+        ctr,
+        &head[0..n],
+        metadata,
+        announced,
+        state,
+    );
     octets::copy(room, &head[0..n]);
     n
 }
@@ -88,29 +100,24 @@ pub fn seal_begin(
     announced: usize,
     state: &mut [u8],
     room: &mut [u8],
-) -> Answer
-    ensures number_value { (result.number ≡ (seal_begin sframe store.old kid.0 metadata.now announced state.old room.old).number) × (result.length ≡ (seal_begin sframe store.old kid.0 metadata.now announced state.old room.old).written) }
+) -> Result<usize, Refusal>
+    ensures number_value { (number_of result ≡ (seal_begin sframe store.old kid.0 metadata.now announced state.old room.old).number) × (written_of result ≡ (seal_begin sframe store.old kid.0 metadata.now announced state.old room.old).written) }
     ensures store_after { store.new ≡ (seal_begin sframe store.old kid.0 metadata.now announced state.old room.old).store }
     ensures room_after { room.new ≡ (seal_begin sframe store.old kid.0 metadata.now announced state.old room.old).room }
     ensures state_after { state.new ≡ (seal_begin sframe store.old kid.0 metadata.now announced state.old room.old).state }
 {
     if !store::is_sound(store) {
-        return refused(STORE_INVALID);
+        return Err(Refusal::StoreInvalid);
     }
-    let Place::At(i) = store::find_near(store, kid, place) else {
-        return refused(KID_MISSING);
-    };
-    let number = judge(
+    let i = store::find_near(store, kid, place).ok_or(Refusal::KidMissing)?;
+    judge(
         store::row_at(store, i),
         kid,
         metadata.len(),
         announced,
         room.len(),
         state.len(),
-    );
-    if number != DONE {
-        return refused(number);
-    }
+    )?;
     let length = write_line(
         store::row_at(store, i),
         kid,
@@ -120,8 +127,5 @@ pub fn seal_begin(
         room,
     );
     store::advance_at(store, i);
-    Answer {
-        number: DONE,
-        length,
-    }
+    Ok(length)
 }

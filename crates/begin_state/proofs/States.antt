@@ -1,13 +1,12 @@
 -- SPDX-License-Identifier: MIT
 -- The state that is written, over plain variables. Assumes nothing.
+use Rattle.std.specs.Prelude.{Option}
 use mathlib.Core.Path.{◌≡◌, refl, sym, ◌∙◌, ap, ap₂}
 use mathlib.Core.Bool.{true, false, false≢true}
 use mathlib.Core.List.{List, []}
 use Prim.Native.Nat.{ℕ}
 use Rattle.octets.specs.Octets.{pasted}
 use Rattle.suites.specs.Derivation.{nonce}
-use Rattle.suites.specs.Suites.{suite_of as named}
-use Rattle.suites.specs.declared.sizes.Found.{Found}
 use Rattle.suites.specs.declared.sizes.Suite.{Suite}
 use Rattle.piece_line.specs.Line.{begun}
 use Rattle.key_record.specs.Record.{KeyRecord, empty, sending, receiving, retired, is_empty, suite_of, salt_of, key_of}
@@ -27,4 +26,4 @@ pub first-written : (s : Suite) (held : KeyRecord) (kind ctr announced : ℕ) (a
 unfolding first_state
 first-written s held kind ctr announced aad key salt iv state out f k a i e =
     e ∙ ap₂ (λ (x y : List ℕ). pasted state 0 (begun kind s announced x y aad)) (i ∙ ap (λ (z : List ℕ). nonce z ctr) a) k
-    ∙ ap (λ (g : Found). pasted state 0 (with_suite [] (λ z. begun kind z announced (nonce (salt_of held) ctr) (key_of held) aad) g)) (sym f)
+    ∙ ap (λ (g : Option Suite). pasted state 0 (with_suite [] (λ z. begun kind z announced (nonce (salt_of held) ctr) (key_of held) aad) g)) (sym f)

@@ -4,12 +4,13 @@
 
 ghost use Rattle.std.specs.Prelude.{◌≡◌, true, ◌++◌, ◌+◌, ◌≤◌, length, take, drop};
 ghost use Rattle.octets.specs.Octets.{pasted};
+ghost use Rattle.answers.specs.Refusals.{number_of};
 ghost use Rattle.group.specs.Group.{kid_bits};
 ghost use Rattle.key_record.specs.Layout.{record_size, decode};
 ghost use Rattle.store.specs.Store.{encode_all, records, sound};
 ghost use Rattle.change_epoch.specs.Epoch.{of_epoch, others, change_epoch};
 
-use answers::{DONE, GROUP_KID_TOO_LONG, GROUP_PART_TOO_LARGE, STORE_INVALID};
+use answers::Refusal;
 use group::KID_BITS;
 use key_record::{RECORD_SIZE, row};
 
@@ -53,20 +54,20 @@ fn gather(store: &mut [u8], e: u64, bits: u64) -> usize
 }
 
 // Removes the receiving keys whose KIDs have the bits as their low e bits. The causes are tried in the order 1, 23, 22.
-pub fn change_epoch(store: &mut [u8], e: u64, bits: u64) -> u32
-    ensures value { result ≡ (change_epoch store.old e bits).number }
+pub fn change_epoch(store: &mut [u8], e: u64, bits: u64) -> Result<(), Refusal>
+    ensures value { number_of result ≡ (change_epoch store.old e bits).number }
     ensures store_after { store.new ≡ (change_epoch store.old e bits).store }
 {
     if !store::is_sound(store) {
-        return STORE_INVALID;
+        return Err(Refusal::StoreInvalid);
     }
     if KID_BITS < e {
-        return GROUP_KID_TOO_LONG;
+        return Err(Refusal::GroupKidTooLong);
     }
     if !group::in_bits(bits, e) {
-        return GROUP_PART_TOO_LARGE;
+        return Err(Refusal::GroupPartTooLarge);
     }
     let end = gather(store, e, bits);
     octets::clear(&mut store[end..]);
-    DONE
+    Ok(())
 }

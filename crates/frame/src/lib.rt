@@ -9,7 +9,7 @@ ghost use Rattle.header.specs.Header.{read_header};
 ghost use Rattle.header.specs.Answers.{read_kid, read_ctr, read_length};
 ghost use Rattle.frame.specs.Frame.{header_bytes, after_header};
 
-use header::{Ctr, Kid, Reading};
+use header::{Ctr, Header, Kid};
 
 // What a header says, with its length: all three 0 where it is refused.
 #[derive(Clone, Copy)]
@@ -33,8 +33,8 @@ pub fn fields_of(bytes: &[u8]) -> Fields
     ensures { (result.kid.0 ≡ read_kid (read_header bytes.now)) × (result.ctr.0 ≡ read_ctr (read_header bytes.now)) × (result.length ≡ read_length (read_header bytes.now)) }
 {
     match header::read_header(bytes) {
-        Reading::Header(kid, ctr, length) => Fields { kid, ctr, length },
-        Reading::Invalid => Fields {
+        Some(Header { kid, ctr, length }) => Fields { kid, ctr, length },
+        None => Fields {
             kid: Kid(0),
             ctr: Ctr(0),
             length: 0,

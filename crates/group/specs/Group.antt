@@ -2,7 +2,10 @@
 -- KIDs of the members of an MLS group: RFC 9605, section 5.2. Context ID, sender index and the low bits of the epoch, one above the
 -- other in a number of 64 bits. S bits are the index's and E bits the epoch's.
 -- Assumes nothing.
-use Rattle.std.specs.Prelude.{◌≡◌, List, [], ◌∷◌, ℕ, zero, suc, ◌+◌, ◌*◌, ◌/◌, ◌%◌, ◌^◌, leb, ltb}
+use Rattle.std.specs.Prelude.{Result, Ok, Err, ◌≡◌, List, [], ◌∷◌, ℕ, zero, suc, ◌+◌, ◌*◌, ◌/◌, ◌%◌, ◌^◌, leb, ltb}
+use Rattle.header.specs.declared.Kid.{Kid}
+use Rattle.group.specs.declared.Parts.{Parts}
+use Rattle.answers.specs.declared.Refusal.{Refusal}
 use Rattle.answers.specs.Answers.{group_part_too_large, group_kid_too_long, Cause, ◌if◌, first}
 
 -- All bits of a KID.
@@ -48,6 +51,23 @@ packed S E context index epoch = given (pack_number S E context index epoch) (gr
 
 unfoldable pub unpack_number : (S E : ℕ) → ℕ
 unpack_number S E = first (unpack_causes S E)
+
+-- What the code hands over: 0 where it refuses.
+abbrev pub kid_in : Result Kid Refusal → ℕ
+kid_in (Ok kid) = kid.0
+kid_in (Err r) = 0
+
+abbrev pub context_of : Result Parts Refusal → ℕ
+context_of (Ok p) = p.context
+context_of (Err r) = 0
+
+abbrev pub index_of : Result Parts Refusal → ℕ
+index_of (Ok p) = p.index
+index_of (Err r) = 0
+
+abbrev pub epoch_of : Result Parts Refusal → ℕ
+epoch_of (Ok p) = p.epoch
+epoch_of (Err r) = 0
 
 -- ---- what is promised of the two
 

@@ -3,9 +3,10 @@
 #![tactic(auto)]
 
 ghost use Rattle.std.specs.Prelude.{◌≡◌, ◌+◌, ◌*◌, ◌/◌, ◌%◌, ◌^◌, ◌≤◌, ◌<◌, leb, ltb};
-ghost use Rattle.group.specs.Group.{kid_bits, context_in, index_in, epoch_in, given, pack_number, packed, unpack_number};
+ghost use Rattle.answers.specs.Refusals.{number_of};
+ghost use Rattle.group.specs.Group.{kid_bits, context_in, index_in, epoch_in, given, kid_in, context_of, index_of, epoch_of, pack_number, packed, unpack_number};
 
-use answers::{DONE, GROUP_KID_TOO_LONG, GROUP_PART_TOO_LARGE};
+use answers::Refusal;
 use header::Kid;
 
 // All bits of a KID.
@@ -62,68 +63,42 @@ pub fn in_bits(x: u64, n: u64) -> bool
     above(x, n) == 0
 }
 
-// What packing answers: its number, and the KID, which is 0 where it is refused.
-#[derive(Clone, Copy)]
-pub struct Packed {
-    pub number: u32,
-    pub kid: Kid,
-}
-
-fn refused(number: u32) -> Packed
-    ensures { (result.number ≡ number) × (result.kid.0 ≡ 0) }
-{
-    Packed {
-        number,
-        kid: Kid(0),
-    }
-}
-
 // The KID of a context, a sender index and an epoch. The causes are tried in the order 23, 22, 23.
-pub fn pack(context: u64, index: u64, epoch: u64, s: u64, e: u64) -> Packed
-    ensures { (result.number ≡ pack_number s e context index epoch) × (result.kid.0 ≡ packed s e context index epoch) }
+pub fn pack(context: u64, index: u64, epoch: u64, s: u64, e: u64) -> Result<Kid, Refusal>
+    ensures { (number_of result ≡ pack_number s e context index epoch) × (kid_in result ≡ packed s e context index epoch) }
 {
     if !widths_fit(s, e) {
-        return refused(GROUP_KID_TOO_LONG);
+        return Err(Refusal::GroupKidTooLong);
     }
     if !in_bits(index, s) {
-        return refused(GROUP_PART_TOO_LARGE);
+        return Err(Refusal::GroupPartTooLarge);
     }
     let width = s + e;
     if !in_bits(context, KID_BITS - width) {
-        return refused(GROUP_KID_TOO_LONG);
+        return Err(Refusal::GroupKidTooLong);
     }
     let kid = raised(context, width) + raised(index, e) + below(epoch, e);
-    Packed {
-        number: DONE,
-        kid: Kid(kid),
-    }
+    Ok(Kid(kid))
 }
 
-// What unpacking answers: its number, and the parts, which are 0 where it is refused.
-#[derive(Clone, Copy)]
+// The parts of a KID.
+#[derive(Clone, Copy, PartialEq, Eq)]
 pub struct Parts {
-    pub number: u32,
     pub context: u64,
     pub index: u64,
     pub epoch: u64,
 }
 
 // The parts of a KID. The one cause is 23.
-pub fn unpack(kid: Kid, s: u64, e: u64) -> Parts
-    ensures { (result.number ≡ unpack_number s e) × (result.context ≡ given (unpack_number s e) (context_in s e kid.0)) × (result.index ≡ given (unpack_number s e) (index_in s e kid.0)) × (result.epoch ≡ given (unpack_number s e) (epoch_in e kid.0)) }
+pub fn unpack(kid: Kid, s: u64, e: u64) -> Result<Parts, Refusal>
+    ensures { (number_of result ≡ unpack_number s e) × (context_of result ≡ given (unpack_number s e) (context_in s e kid.0)) × (index_of result ≡ given (unpack_number s e) (index_in s e kid.0)) × (epoch_of result ≡ given (unpack_number s e) (epoch_in e kid.0)) }
 {
     if !widths_fit(s, e) {
-        return Parts {
-            number: GROUP_KID_TOO_LONG,
-            context: 0,
-            index: 0,
-            epoch: 0,
-        };
+        return Err(Refusal::GroupKidTooLong);
     }
-    Parts {
-        number: DONE,
+    Ok(Parts {
         context: above(kid.0, s + e),
         index: below(above(kid.0, e), s),
         epoch: below(kid.0, e),
-    }
+    })
 }

@@ -15,13 +15,13 @@ use lib.Seq.{drop_at, take-add, length-take-le}
 use borrow.Author.Tests.{lt-ltb, le-ltb, le-leb, lt-leb, ltb-true, ltb-false, leb-true, leb-false}
 use Rattle.octets.specs.Octets.{Octets, number, bytes, pick}
 use Rattle.octets.proofs.Laws.{bytes-length, number-bytes, number_append, number-take, number_lt, octets-drop}
-use Rattle.header.specs.Header.{size, flag, code, width, config, max_header, header, read_bytes, read_field, with_counter, read_counter, read_header, field_bytes, announced, CutShort}
+use Rattle.header.specs.Header.{size, flag, code, width, config, max_header, header, read_bytes, read_field, with_counter, read_counter, read_header, field_bytes, announced, CutShort, field, header_of}
+use Rattle.header.specs.Answers.{read_kid, read_ctr, read_length}
 use Rattle.header.specs.declared.Ctr.{Ctr}
 use Rattle.header.specs.declared.Field.{Field}
-use Rattle.header.specs.declared.Field.TheVariants.{Value, Refused}
+use Rattle.header.specs.declared.Header.{Header}
+use Rattle.std.specs.Prelude.{Option, Some, None}
 use Rattle.header.specs.declared.Kid.{Kid}
-use Rattle.header.specs.declared.Reading.{Reading}
-use Rattle.header.specs.declared.Reading.TheVariants.{Header, Invalid}
 
 -- the two outcomes of a test
 pub data Two (b : Bool) : Type 0 where
@@ -87,7 +87,7 @@ field-bits v h = by (two (ltb v 8))
         record { flag-bit = rw e (omega arith); code-bits = rw e (omega (arith, s.some, s.most)); width-most = rw e s.most }
 
 -- bytes that hold a value are read
-read-bytes : (n v : ℕ) (l : List ℕ) → n ≤ length l → number n l ≡ v → read_bytes n l ≡ Value v n
+read-bytes : (n v : ℕ) (l : List ℕ) → n ≤ length l → number n l ≡ v → read_bytes n l ≡ Some (field v n)
 unfolding read_bytes
 read-bytes n v l h e = rw (le-leb n (length l) h, e)
 
@@ -108,11 +108,11 @@ pub nibble-lt : (v : ℕ) → v < 2 ^ 64 → flag v * 8 + code v < 16
 nibble-lt v h = let b = field-bits v h in omega (arith, b.flag-bit, b.code-bits)
 
 -- a field written is read back, whatever follows it
-field-read : (v : ℕ) (rest : List ℕ) → v < 2 ^ 64 → read_field (flag v) (code v) (bytes (width v) v ++ rest) ≡ Value v (width v)
+field-read : (v : ℕ) (rest : List ℕ) → v < 2 ^ 64 → read_field (flag v) (code v) (bytes (width v) v ++ rest) ≡ Some (field v (width v))
 unfolding flag code width read_field
 field-read v rest h = by (two (ltb v 8))
   where
-    by : Two (ltb v 8) → read_field (flag v) (code v) (bytes (width v) v ++ rest) ≡ Value v (width v)
+    by : Two (ltb v 8) → read_field (flag v) (code v) (bytes (width v) v ++ rest) ≡ Some (field v (width v))
     by (yes' e) = rw e
     by (no' e) =
         let s = sized v (omega (arith, ltb-false v 8 e)) h in
@@ -130,23 +130,31 @@ abbrev value_of : (x k : ℕ) (l : List ℕ) → ℕ
 value_of x k l = pick (eqb x 0) k (number (k + 1) l)
 
 -- it is read where its bytes are there, and where they are not it is refused
-field-there : (x k : ℕ) (l : List ℕ) → field_bytes x k ≤ length l → read_field x k l ≡ Value (value_of x k l) (field_bytes x k)
+field-there : (x k : ℕ) (l : List ℕ) → field_bytes x k ≤ length l → read_field x k l ≡ Some (field (value_of x k l) (field_bytes x k))
 unfolding read_field field_bytes
 field-there x k l h = by (two (eqb x 0))
   where
-    by : Two (eqb x 0) → read_field x k l ≡ Value (value_of x k l) (field_bytes x k)
+    by : Two (eqb x 0) → read_field x k l ≡ Some (field (value_of x k l) (field_bytes x k))
     by (yes' t) = rw t
     by (no' t) = rw t (read-bytes (k + 1) (number (k + 1) l) l (rw t at h) refl)
 
-field_cut : (x k : ℕ) (l : List ℕ) → length l < field_bytes x k → read_field x k l ≡ Refused
+field_cut : (x k : ℕ) (l : List ℕ) → length l < field_bytes x k → read_field x k l ≡ None
 unfolding read_field read_bytes field_bytes
 field_cut x k l h = by (two (eqb x 0))
   where
-    by : Two (eqb x 0) → read_field x k l ≡ Refused
+    by : Two (eqb x 0) → read_field x k l ≡ None
     by (yes' t) = let z : length l < 0 = rw t at h in absurd (omega arith)
     by (no' t) = rw (t, lt-leb (k + 1) (length l) (rw t at h))
 
-refused-no-value : (v n : ℕ) → Refused ≡ Value v n → ⊥
+value_read : Option Field → ℕ
+value_read (Some f) = f.value
+value_read None = 0
+
+width_read : Option Field → ℕ
+width_read (Some f) = f.width
+width_read None = 0
+
+refused-no-value : (v n : ℕ) → None ≡ Some (field v n) → ⊥
 refused-no-value v n e = let z : ◌≡◌ {A = ℕ} 0 1 = cc in omega arith
 
 -- what is read of it: its bytes and no others
@@ -155,19 +163,20 @@ record FieldRead (x k : ℕ) (l : List ℕ) (v n : ℕ) : Type 0 where
   inside : n ≤ length l
   value-is : v ≡ value_of x k l
 
-field_found : (x k v n : ℕ) (l : List ℕ) → read_field x k l ≡ Value v n → FieldRead x k l v n
+field_found : (x k v n : ℕ) (l : List ℕ) → read_field x k l ≡ Some (field v n) → FieldRead x k l v n
+unfolding field_bytes width_read value_read
 field_found x k v n l e = by (two (leb (field_bytes x k) (length l)))
   where
     by : Two (leb (field_bytes x k) (length l)) → FieldRead x k l v n
     by (yes' t) =
         let h = leb-true (field_bytes x k) (length l) t in
-        let q : Value (value_of x k l) (field_bytes x k) ≡ Value v n = sym (field-there x k l h) ∙ e in
-        let m : field_bytes x k ≡ n = cc in
-        record { length-is = sym m; inside = rw m at h; value-is = cc }
+        let q : Some (field (value_of x k l) (field_bytes x k)) ≡ Some (field v n) = sym (field-there x k l h) ∙ e in
+        let m : field_bytes x k ≡ n = ap width_read q in
+        record { length-is = sym m; inside = rw m at h; value-is = sym (ap value_read q) }
     by (no' t) = absurd (refused-no-value v n (sym (field_cut x k l (leb-false (field_bytes x k) (length l) t)) ∙ e))
 
 -- a field takes no more bytes than there are
-pub field-inside : (x k v n : ℕ) (l : List ℕ) → read_field x k l ≡ Value v n → n ≤ length l
+pub field-inside : (x k v n : ℕ) (l : List ℕ) → read_field x k l ≡ Some (field v n) → n ≤ length l
 field-inside x k v n l e = (field_found x k v n l e).inside
 
 -- it has 8 bytes at most, and its value 64 bits
@@ -189,11 +198,11 @@ value-below x k l h o = by (two (eqb x 0))
         rw t (lt_of_lt_of_le (number_lt (k + 1) l o) (pow-le-pow_right {n = 256} (omega arith) m))
 
 -- its own bytes are read as it was, whatever follows them
-field-front : (x k v n : ℕ) (l rest : List ℕ) → read_field x k l ≡ Value v n → read_field x k (take n l ++ rest) ≡ Value v n
+field-front : (x k v n : ℕ) (l rest : List ℕ) → read_field x k l ≡ Some (field v n) → read_field x k (take n l ++ rest) ≡ Some (field v n)
 unfolding field_bytes
 field-front x k v n l rest e =
     field-there x k (take n l ++ rest) (rw (← f.length-is, length-append, taken) (omega arith))
-    ∙ ap₂ Value (same-value (two (eqb x 0)) ∙ sym f.value-is) (sym f.length-is)
+    ∙ ap₂ (λ (v n : ℕ). Some (field v n)) (same-value (two (eqb x 0)) ∙ sym f.value-is) (sym f.length-is)
   where
     f : FieldRead x k l v n
     f = field_found x k v n l e
@@ -239,14 +248,14 @@ header-length kid ctr hk hc =
     (omega arith, omega arith)
 
 -- a header whose two fields are read is read
-read-parts : (b x k y c kid a ctr n : ℕ) (l : List ℕ) → ConfigBits b x k y c → read_field x k l ≡ Value kid a → read_field y c (drop a l) ≡ Value ctr n
-    → read_header (b ∷ l) ≡ Header (record { 0 = kid }) (record { 0 = ctr }) (1 + a + n)
+read-parts : (b x k y c kid a ctr n : ℕ) (l : List ℕ) → ConfigBits b x k y c → read_field x k l ≡ Some (field kid a) → read_field y c (drop a l) ≡ Some (field ctr n)
+    → read_header (b ∷ l) ≡ header_of (record { 0 = kid }) (record { 0 = ctr }) (1 + a + n)
 unfolding read_header read_counter with_counter
 read-parts b x k y c kid a ctr n l p e f = rw (p.x-is, p.k-is, e, p.y-is, p.c-is, f)
 
 -- a header written is read back, whatever follows it
 pub read-header : (kid ctr : ℕ) (rest : List ℕ) → kid < 2 ^ 64 → ctr < 2 ^ 64
-    → read_header (header kid ctr ++ rest) ≡ Header (record { 0 = kid }) (record { 0 = ctr }) (length (header kid ctr))
+    → read_header (header kid ctr ++ rest) ≡ header_of (record { 0 = kid }) (record { 0 = ctr }) (length (header kid ctr))
 unfolding header
 read-header kid ctr rest hk hc =
     let a = bytes (width kid) kid in
@@ -258,42 +267,39 @@ read-header kid ctr rest hk hc =
     (ap (λ (t : List ℕ). read_field (flag ctr) (code ctr) (drop (width kid) t)) e
     ∙ ap (read_field (flag ctr) (code ctr)) (drop_at a (b ++ rest) (width kid) (bytes-length (width kid) kid))
     ∙ field-read ctr rest hc)
-    ∙ ap (Header (record { 0 = kid }) (record { 0 = ctr })) (sym (header-size kid ctr))
+    ∙ ap (header_of (record { 0 = kid }) (record { 0 = ctr })) (sym (header-size kid ctr))
 
 -- ---- a header as it is received
 
-invalid-no-header : (k : Kid) (c : Ctr) (n : ℕ) → Invalid ≡ Header k c n → ⊥
+invalid-no-header : (k : Kid) (c : Ctr) (n : ℕ) → None ≡ header_of k c n → ⊥
 invalid-no-header k c n e = let z : ◌≡◌ {A = ℕ} 0 1 = cc in omega arith
 
 -- its two fields
 record FieldsRead (b : ℕ) (l : List ℕ) (kid ctr n : ℕ) : Type 0 where
   kid-length : ℕ
   ctr-length : ℕ
-  kid-read : read_field (b / 128) (b / 16 % 8) l ≡ Value kid kid-length
-  ctr-read : read_field (b / 8 % 2) (b % 8) (drop kid-length l) ≡ Value ctr ctr-length
+  kid-read : read_field (b / 128) (b / 16 % 8) l ≡ Some (field kid kid-length)
+  ctr-read : read_field (b / 8 % 2) (b % 8) (drop kid-length l) ≡ Some (field ctr ctr-length)
   whole : 1 + kid-length + ctr-length ≡ n
 
-fields_read : (b : ℕ) (l : List ℕ) (k : Kid) (c : Ctr) (n : ℕ) → read_header (b ∷ l) ≡ Header k c n → FieldsRead b l k.0 c.0 n
+fields_read : (b : ℕ) (l : List ℕ) (k : Kid) (c : Ctr) (n : ℕ) → read_header (b ∷ l) ≡ header_of k c n → FieldsRead b l k.0 c.0 n
 unfolding read_header read_counter with_counter
 fields_read b l k c n e = kid-then (read_field (b / 128) (b / 16 % 8) l) refl e
   where
-    ctr-then : (kid a : ℕ) → read_field (b / 128) (b / 16 % 8) l ≡ Value kid a → (f : Field) → read_field (b / 8 % 2) (b % 8) (drop a l) ≡ f
-        → with_counter kid a f ≡ Header k c n → FieldsRead b l k.0 c.0 n
-    ctr-then kid a p Refused q w = absurd (invalid-no-header k c n w)
-    ctr-then kid a p (Value ctr m) q w =
-        let w' : Header (record { 0 = kid }) (record { 0 = ctr }) (1 + a + m) ≡ Header k c n = w in
-        let ek : record { 0 = kid } ≡ k = cc in
-        let ec : record { 0 = ctr } ≡ c = cc in
-        let kk : kid ≡ k.0 = ap (λ (x : Kid). x.0) ek in
-        let cc' : ctr ≡ c.0 = ap (λ (x : Ctr). x.0) ec in
-        record { kid-length = a; ctr-length = m; kid-read = p ∙ ap (λ (v : ℕ). Value v a) kk; ctr-read = q ∙ ap (λ (v : ℕ). Value v m) cc'; whole = cc }
+    ctr-then : (kid a : ℕ) → read_field (b / 128) (b / 16 % 8) l ≡ Some (field kid a) → (f : Option Field) → read_field (b / 8 % 2) (b % 8) (drop a l) ≡ f
+        → with_counter kid a f ≡ header_of k c n → FieldsRead b l k.0 c.0 n
+    ctr-then kid a p None q w = absurd (invalid-no-header k c n w)
+    ctr-then kid a p (Some f) q w =
+        let kk : kid ≡ k.0 = ap read_kid w in
+        let cc' : f.value ≡ c.0 = ap read_ctr w in
+        record { kid-length = a; ctr-length = f.width; kid-read = p ∙ ap (λ (v : ℕ). Some (field v a)) kk; ctr-read = q ∙ ap (λ (v : ℕ). Some (field v f.width)) cc'; whole = ap read_length w }
 
-    kid-then : (f : Field) → read_field (b / 128) (b / 16 % 8) l ≡ f → read_counter b l f ≡ Header k c n → FieldsRead b l k.0 c.0 n
-    kid-then Refused q w = absurd (invalid-no-header k c n w)
-    kid-then (Value kid a) q w = ctr-then kid a q (read_field (b / 8 % 2) (b % 8) (drop a l)) refl w
+    kid-then : (f : Option Field) → read_field (b / 128) (b / 16 % 8) l ≡ f → read_counter b l f ≡ header_of k c n → FieldsRead b l k.0 c.0 n
+    kid-then None q w = absurd (invalid-no-header k c n w)
+    kid-then (Some f) q w = ctr-then f.value f.width q (read_field (b / 8 % 2) (b % 8) (drop f.width l)) refl w
 
 -- it has the length that its first byte announces, and all of it is there
-spans : (b : ℕ) (l : List ℕ) (k : Kid) (c : Ctr) (n : ℕ) → read_header (b ∷ l) ≡ Header k c n → (n ≡ announced b) × (n ≤ length (b ∷ l))
+spans : (b : ℕ) (l : List ℕ) (k : Kid) (c : Ctr) (n : ℕ) → read_header (b ∷ l) ≡ header_of k c n → (n ≡ announced b) × (n ≤ length (b ∷ l))
 unfolding announced
 spans b l k c n e =
     let p = fields_read b l k c n e in
@@ -310,7 +316,7 @@ pub record HeaderRead (l : List ℕ) (kid ctr n : ℕ) : Type 0 where
   pub most : n ≤ max_header
   pub inside : n ≤ length l
 
-pub header_read : (l : List ℕ) (k : Kid) (c : Ctr) (n : ℕ) → Octets l → read_header l ≡ Header k c n → HeaderRead l k.0 c.0 n
+pub header_read : (l : List ℕ) (k : Kid) (c : Ctr) (n : ℕ) → Octets l → read_header l ≡ header_of k c n → HeaderRead l k.0 c.0 n
 unfolding read_header
 header_read [] k c n o e = absurd (invalid-no-header k c n e)
 header_read (b ∷ l) k c n o e =
@@ -333,7 +339,7 @@ header_read (b ∷ l) k c n o e =
     rest i = o (suc i)
 
 -- and where its bytes are all there it is read
-all_there : (b : ℕ) (l : List ℕ) → announced b ≤ length (b ∷ l) → read_header (b ∷ l) ≡ Invalid → ⊥
+all_there : (b : ℕ) (l : List ℕ) → announced b ≤ length (b ∷ l) → read_header (b ∷ l) ≡ None → ⊥
 unfolding announced
 all_there b l h e =
     let a = field_bytes (b / 128) (b / 16 % 8) in
@@ -344,7 +350,7 @@ all_there b l h e =
     (field-there _ _ l (omega arith))
     (field-there _ _ (drop a l) (rw length-drop (omega arith))))
 
-there : (l : List ℕ) → read_header l ≡ Invalid → CutShort l
+there : (l : List ℕ) → read_header l ≡ None → CutShort l
 there [] e = tt
 there (b ∷ l) e = by (two (leb (announced b) (length (b ∷ l))))
   where
@@ -352,21 +358,21 @@ there (b ∷ l) e = by (two (leb (announced b) (length (b ∷ l))))
     by (yes' t) = absurd (all_there b l (leb-true (announced b) (length (b ∷ l)) t) e)
     by (no' t) = leb-false (announced b) (length (b ∷ l)) t
 
-back : (l : List ℕ) → CutShort l → read_header l ≡ Invalid
+back : (l : List ℕ) → CutShort l → read_header l ≡ None
 unfolding read_header
 back [] h = refl
 back (b ∷ l) h = by (read_header (b ∷ l)) refl
   where
-    by : (r : Reading) → read_header (b ∷ l) ≡ r → read_header (b ∷ l) ≡ Invalid
-    by Invalid q = q
-    by (Header k c n) q = let s = spans b l k c n q in absurd (omega (arith, s.0, s.1, h))
+    by : (r : Option Header) → read_header (b ∷ l) ≡ r → read_header (b ∷ l) ≡ None
+    by None q = q
+    by (Some r) q = let s = spans b l r.kid r.ctr r.length q in absurd (omega (arith, s.0, s.1, h))
 
 -- a header is refused exactly when it is cut short
-pub cut_short : (l : List ℕ) → (read_header l ≡ Invalid) ↔ CutShort l
+pub cut_short : (l : List ℕ) → (read_header l ≡ None) ↔ CutShort l
 cut_short l = (there l, back l)
 
 -- its own bytes are read as it was, whatever follows them
-pub header-front : (l rest : List ℕ) (k : Kid) (c : Ctr) (n : ℕ) → read_header l ≡ Header k c n → read_header (take n l ++ rest) ≡ Header k c n
+pub header-front : (l rest : List ℕ) (k : Kid) (c : Ctr) (n : ℕ) → read_header l ≡ header_of k c n → read_header (take n l ++ rest) ≡ header_of k c n
 unfolding read_header
 header-front [] rest k c n e = absurd (invalid-no-header k c n e)
 header-front (b ∷ l) rest k c n e =
@@ -382,20 +388,18 @@ header-front (b ∷ l) rest k c n e =
     (field-front _ _ k.0 a l (take m (drop a l) ++ rest) p.kid-read)
     (ap (read_field (b / 8 % 2) (b % 8)) (drop_at (take a l) (take m (drop a l) ++ rest) a (length-take-le a l (field-inside _ _ _ a l p.kid-read)))
     ∙ field-front _ _ c.0 m (drop a l) rest p.ctr-read)
-    ∙ ap (Header k c) p.whole
+    ∙ ap (header_of k c) p.whole
 
 -- bytes that begin with two headers begin with one: neither begins the other
 pub header-begins : (kid ctr kid' ctr' : ℕ) (x y : List ℕ) → kid < 2 ^ 64 → ctr < 2 ^ 64 → kid' < 2 ^ 64 → ctr' < 2 ^ 64
     → header kid ctr ++ x ≡ header kid' ctr' ++ y → (kid ≡ kid') × (ctr ≡ ctr') × (x ≡ y)
 header-begins kid ctr kid' ctr' x y a b c d e =
-    let r : Header (record { 0 = kid }) (record { 0 = ctr }) (length (header kid ctr)) ≡ Header (record { 0 = kid' }) (record { 0 = ctr' }) (length (header kid' ctr')) =
+    let r : header_of (record { 0 = kid }) (record { 0 = ctr }) (length (header kid ctr)) ≡ header_of (record { 0 = kid' }) (record { 0 = ctr' }) (length (header kid' ctr')) =
     sym (read-header kid ctr x a b) ∙ ap read_header e ∙ read-header kid' ctr' y c d
     in
-    let ek : ◌≡◌ {A = Kid} (record { 0 = kid }) (record { 0 = kid' }) = cc in
-    let ec : ◌≡◌ {A = Ctr} (record { 0 = ctr }) (record { 0 = ctr' }) = cc in
-    let en : length (header kid ctr) ≡ length (header kid' ctr') = cc in (
-      ap (λ (k : Kid). k.0) ek,
-      ap (λ (k : Ctr). k.0) ec,
+    let en : length (header kid ctr) ≡ length (header kid' ctr') = ap read_length r in (
+      ap read_kid r,
+      ap read_ctr r,
       sym (drop_at (header kid ctr) x (length (header kid ctr)) refl)
           ∙ ap₂ drop en e
           ∙ drop_at (header kid' ctr') y (length (header kid' ctr')) refl,

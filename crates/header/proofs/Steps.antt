@@ -11,12 +11,9 @@ use borrow.Author.Tests.{le-leb, lt-leb, leb-true, leb-false, eq-eqb, ne_eqb}
 use borrow.Rule.Slice.PartMut.{put_mid}
 use Rattle.octets.specs.Octets.{number, bytes, pasted}
 use Rattle.octets.proofs.Laws.{part-rest, part-from, lent-from, bytes-length, set-pasted, pasted-append, pasted-from}
-use Rattle.header.specs.Header.{flag, code, width, config, max_header, header, write_header, read_bytes, read_field, with_counter, read_counter, read_header}
+use Rattle.header.specs.Header.{flag, code, width, config, max_header, header, write_header, read_bytes, read_field, with_counter, read_counter, read_header, field, header_of}
 use Rattle.header.specs.declared.Field.{Field}
-use Rattle.header.specs.declared.Field.TheVariants.{Value, Refused}
-use Rattle.header.specs.declared.Reading.TheVariants.{Header, Invalid}
-use Rattle.header.specs.declared.Written.{Written}
-use Rattle.header.specs.declared.Written.TheVariants.{Length, NoRoom}
+use Rattle.std.specs.Prelude.{Option, Some, None}
 use Rattle.header.proofs.Laws.{Two, yes', no', two, field-inside, header-size}
 
 -- ---- writing
@@ -33,7 +30,7 @@ module _ (kid ctr k c : ℕ) (out : List ℕ) (kw : k ≡ width kid) (cw : c ≡
   pub header-most : k ≤ 8 → c ≤ 8 → length (header kid ctr) ≤ max_header
   header-most m n = rw whole (omega arith)
 
-  pub no_room : length out < 1 + k + c → (NoRoom ≡ (write_header kid ctr 0 out).answer) × (out ≡ (write_header kid ctr 0 out).room)
+  pub no_room : length out < 1 + k + c → (None ≡ (write_header kid ctr 0 out).answer) × (out ≡ (write_header kid ctr 0 out).room)
   unfolding write_header
   no_room h =
       let t = lt-leb (0 + length (header kid ctr)) (length out) (omega (arith, whole)) in
@@ -55,7 +52,7 @@ module _ (kid ctr k c : ℕ) (out : List ℕ) (kw : k ≡ width kid) (cw : c ≡
         let four : b ∷ (bytes k kid ++ bytes c ctr) ≡ header kid ctr = rw (kw, cw, is) in
         three ∙ ap (pasted out 0) four
 
-    pub wrote : 1 + k + c ≤ length out → (Length (1 + k + c) ≡ (write_header kid ctr 0 out).answer) × (q ≡ (write_header kid ctr 0 out).room)
+    pub wrote : 1 + k + c ≤ length out → (Some (1 + k + c) ≡ (write_header kid ctr 0 out).answer) × (q ≡ (write_header kid ctr 0 out).room)
     unfolding write_header
     wrote h =
         let t = le-leb (0 + length (header kid ctr)) (length out) (omega (arith, whole)) in
@@ -74,7 +71,7 @@ module _ (kid ctr offset i : ℕ) (out : List ℕ) (from : i ≡ min offset (len
           let n = header-size kid ctr in
           lt-leb (0 + length (header kid ctr)) (length (drop offset out)) (simp length-drop (omega arith)) ∙ sym t
 
-  pub wrote_at : (w : Written) (p : List ℕ) → w ≡ (write_header kid ctr 0 (take (length out - i) (drop i out))).answer → p ≡ (write_header kid ctr 0 (take (length out - i) (drop i out))).room
+  pub wrote_at : (w : Option ℕ) (p : List ℕ) → w ≡ (write_header kid ctr 0 (take (length out - i) (drop i out))).answer → p ≡ (write_header kid ctr 0 (take (length out - i) (drop i out))).room
       → (w ≡ (write_header kid ctr offset out).answer) × (put_mid i (length out - i) out p ≡ (write_header kid ctr offset out).room)
   unfolding write_header
   wrote_at w p a r = by (two (leb (offset + length (header kid ctr)) (length out)))
@@ -98,44 +95,44 @@ module _ (kid ctr offset i : ℕ) (out : List ℕ) (from : i ≡ min offset (len
 -- ---- reading a field
 
 module _ (x k : ℕ) (l : List ℕ) where
-  pub short-form : x ≡ 0 → Value k 0 ≡ read_field x k l
+  pub short-form : x ≡ 0 → Some (field k 0) ≡ read_field x k l
   unfolding read_field
   short-form e = rw (eq-eqb x 0 e)
 
-  pub cut : (x ≡ 0 → ⊥) → length l < k + 1 → Refused ≡ read_field x k l
+  pub cut : (x ≡ 0 → ⊥) → length l < k + 1 → None ≡ read_field x k l
   unfolding read_field read_bytes
   cut d h = rw (ne_eqb x 0 d, lt-leb (k + 1) (length l) h)
 
-  pub whole-field : (v : ℕ) → (x ≡ 0 → ⊥) → k + 1 ≤ length l → v ≡ number (k + 1) l → Value v (k + 1) ≡ read_field x k l
+  pub whole-field : (v : ℕ) → (x ≡ 0 → ⊥) → k + 1 ≤ length l → v ≡ number (k + 1) l → Some (field v (k + 1)) ≡ read_field x k l
   unfolding read_field read_bytes
   whole-field v d h e = rw (ne_eqb x 0 d, le-leb (k + 1) (length l) h, ← e)
 
 -- ---- reading the header
 
-pub nothing : (l : List ℕ) → length l ≡ 0 → Invalid ≡ read_header l
+pub nothing : (l : List ℕ) → length l ≡ 0 → None ≡ read_header l
 unfolding read_header
 nothing [] e = refl
 nothing (b ∷ l) e = absurd (omega arith)
 
 -- the KID's field is read behind the first byte
-opened : (l : List ℕ) (f : Field) → (length l ≡ 0 → ⊥) → f ≡ read_field (get_or l 0 0 / 128) (get_or l 0 0 / 16 % 8) (take (length l - 1) (drop 1 l))
+opened : (l : List ℕ) (f : Option Field) → (length l ≡ 0 → ⊥) → f ≡ read_field (get_or l 0 0 / 128) (get_or l 0 0 / 16 % 8) (take (length l - 1) (drop 1 l))
     → read_header l ≡ read_counter (get_or l 0 0) (drop 1 l) f
 unfolding read_header
 opened [] f d e = absurd (d refl)
 opened (b ∷ l) f d e = ap (read_counter b l) (ap (read_field (b / 128) (b / 16 % 8)) (sym (part-rest 1 (b ∷ l))) ∙ sym e)
 
-module _ (l : List ℕ) (f : Field) (some : length l ≡ 0 → ⊥) (first : f ≡ read_field (get_or l 0 0 / 128) (get_or l 0 0 / 16 % 8) (take (length l - 1) (drop 1 l))) where
-  pub no-kid : f ≡ Refused → Invalid ≡ read_header l
+module _ (l : List ℕ) (f : Option Field) (some : length l ≡ 0 → ⊥) (first : f ≡ read_field (get_or l 0 0 / 128) (get_or l 0 0 / 16 % 8) (take (length l - 1) (drop 1 l))) where
+  pub no-kid : f ≡ None → None ≡ read_header l
   unfolding read_counter
   no-kid e = sym (opened l f some first ∙ ap (read_counter (get_or l 0 0) (drop 1 l)) e)
 
-  module _ (kid a : ℕ) (is : f ≡ Value kid a) where
+  module _ (kid a : ℕ) (is : f ≡ Some (field kid a)) where
     pub kid-inside : 1 + a ≤ length l
     kid-inside =
         let h = field-inside _ _ kid a _ (sym first ∙ is) in
         omega (arith, simp (part-rest, length-drop) at h)
 
-    module _ (g : Field) (second : g ≡ read_field (get_or l 0 0 / 8 % 2) (get_or l 0 0 % 8) (take (length l - (1 + a)) (drop (1 + a) l))) where
+    module _ (g : Option Field) (second : g ≡ read_field (get_or l 0 0 / 8 % 2) (get_or l 0 0 % 8) (take (length l - (1 + a)) (drop (1 + a) l))) where
       after : read_header l ≡ with_counter kid a g
       unfolding read_counter
       after =
@@ -144,15 +141,15 @@ module _ (l : List ℕ) (f : Field) (some : length l ≡ 0 → ⊥) (first : f �
           ∙ ap (λ (t : List ℕ). with_counter kid a (read_field (get_or l 0 0 / 8 % 2) (get_or l 0 0 % 8) t)) (drop-drop a 1 l ∙ sym (part-rest (1 + a) l))
           ∙ ap (with_counter kid a) (sym second)
 
-      pub no-counter : g ≡ Refused → Invalid ≡ read_header l
+      pub no-counter : g ≡ None → None ≡ read_header l
       unfolding with_counter
       no-counter e = sym (after ∙ ap (with_counter kid a) e)
 
-      pub both_read : (ctr c : ℕ) → g ≡ Value ctr c → Header (record { 0 = kid }) (record { 0 = ctr }) (1 + a + c) ≡ read_header l
+      pub both_read : (ctr c : ℕ) → g ≡ Some (field ctr c) → header_of (record { 0 = kid }) (record { 0 = ctr }) (1 + a + c) ≡ read_header l
       unfolding with_counter
       both_read ctr c e = sym (after ∙ ap (with_counter kid a) e)
 
-      pub counter-inside : (ctr c : ℕ) → g ≡ Value ctr c → 1 + a + c ≤ length l
+      pub counter-inside : (ctr c : ℕ) → g ≡ Some (field ctr c) → 1 + a + c ≤ length l
       counter-inside ctr c e =
           let h = field-inside _ _ ctr c _ (sym second ∙ e) in
           let i = kid-inside in

@@ -6,8 +6,7 @@ use mathlib.Core.List.{List, [], ◌∷◌}
 use Prim.Native.Nat.{ℕ}
 use lib.ListN.{length}
 use Rattle.octets.specs.Octets.{number, bytes}
-use Rattle.header.specs.Header.{size, flag, code, width, config, header, read_bytes, read_field, with_counter, read_counter, read_header}
-use Rattle.header.specs.declared.Reading.TheVariants.{Header}
+use Rattle.header.specs.Header.{size, flag, code, width, config, header, read_bytes, read_field, with_counter, read_counter, read_header, header_of}
 
 record Vector : Type 0 where
   kid : ℕ
@@ -34,7 +33,7 @@ vectors =
 abbrev Right : Vector → Type 0
 Right v =
     (header v.kid v.ctr ≡ v.encoded)
-    × (read_header v.encoded ≡ Header (record { 0 = v.kid }) (record { 0 = v.ctr }) (length v.encoded))
+    × (read_header v.encoded ≡ header_of (record { 0 = v.kid }) (record { 0 = v.ctr }) (length v.encoded))
 
 abbrev Each : (Vector → Type 0) → List Vector → Type 0
 Each P [] = Unit {0}
@@ -42,8 +41,8 @@ Each P (v ∷ vs) = P v × Each P vs
 
 -- every vector is right, and the longer forms 0805 and 9000ff read as CTR 5 and KID 255
 table : Each Right vectors
-    × (read_header (0x08 ∷ 0x05 ∷ []) ≡ Header (record { 0 = 0 }) (record { 0 = 5 }) 2)
-    × (read_header (0x90 ∷ 0x00 ∷ 0xff ∷ []) ≡ Header (record { 0 = 0xff }) (record { 0 = 0 }) 3)
+    × (read_header (0x08 ∷ 0x05 ∷ []) ≡ header_of (record { 0 = 0 }) (record { 0 = 5 }) 2)
+    × (read_header (0x90 ∷ 0x00 ∷ 0xff ∷ []) ≡ header_of (record { 0 = 0xff }) (record { 0 = 0 }) 3)
 unfolding number bytes size flag code width config header read_bytes read_field with_counter read_counter read_header lib.Count.count_leading_zeros
 table = (
   (

@@ -1,15 +1,13 @@
 -- SPDX-License-Identifier: MIT
 -- The SFrame header, RFC 9605 section 4.3. A Key ID (KID) and a counter (CTR) are numbers of 64 bits.
 -- Assumes nothing.
-use Rattle.std.specs.Prelude.{List, [], ◌∷◌, ◌++◌, ℕ, ◌+◌, ◌*◌, ◌-◌, ◌/◌, ◌%◌, ◌<◌, leb, ltb, eqb, length, drop}
+use Rattle.std.specs.Prelude.{Option, Some, None, List, [], ◌∷◌, ◌++◌, ℕ, ◌+◌, ◌*◌, ◌-◌, ◌/◌, ◌%◌, ◌<◌, leb, ltb, eqb, length, drop}
 use Rattle.std.specs.Int.Count.{count_leading_zeros}
 use Rattle.octets.specs.Octets.{number, bytes, pasted, pick}
 use Rattle.header.specs.declared.Field.{Field}
-use Rattle.header.specs.declared.Field.TheVariants.{Value, Refused}
-use Rattle.header.specs.declared.Reading.{Reading}
-use Rattle.header.specs.declared.Reading.TheVariants.{Header, Invalid}
-use Rattle.header.specs.declared.Written.{Written}
-use Rattle.header.specs.declared.Written.TheVariants.{Length, NoRoom}
+use Rattle.header.specs.declared.Header.{Header}
+use Rattle.header.specs.declared.Ctr.{Ctr}
+use Rattle.header.specs.declared.Kid.{Kid}
 
 -- ---- writing
 
@@ -43,7 +41,7 @@ header kid ctr = config kid ctr ∷ (bytes (width kid) kid ++ bytes (width ctr) 
 
 -- What writing a header answers, and what the room holds afterwards.
 pub record Writing : Type 0 where
-  pub answer : Written
+  pub answer : Option ℕ
   pub room : List ℕ
 
 -- Writing a header at an offset in the room: the bytes before it and behind it stay. Cause 12: the room is shorter than offset and
@@ -52,32 +50,40 @@ unfoldable pub write_header : (kid ctr offset : ℕ) (out : List ℕ) → Writin
 write_header kid ctr offset out =
     let h = header kid ctr in
     pick (leb (offset + length h) (length out))
-    (record { answer = Length (length h); room = pasted out offset h })
-    (record { answer = NoRoom; room = out })
+    (record { answer = Some (length h); room = pasted out offset h })
+    (record { answer = None; room = out })
 
 -- ---- reading
 
+-- A field as it was read: its value, and how many bytes of it follow the config byte.
+abbrev pub field : (value width : ℕ) → Field
+field value width = record { value = value; width = width }
+
 -- A field's value in n bytes, be they more than it takes.
-unfoldable pub read_bytes : ℕ → List ℕ → Field
-read_bytes n l = pick (leb n (length l)) (Value (number n l) n) Refused
+unfoldable pub read_bytes : ℕ → List ℕ → Option Field
+read_bytes n l = pick (leb n (length l)) (Some (field (number n l) n)) None
 
 -- A field with flag x and three bits k: k itself, or the next k + 1 bytes.
-unfoldable pub read_field : (x k : ℕ) (l : List ℕ) → Field
-read_field x k l = pick (eqb x 0) (Value k 0) (read_bytes (k + 1) l)
+unfoldable pub read_field : (x k : ℕ) (l : List ℕ) → Option Field
+read_field x k l = pick (eqb x 0) (Some (field k 0)) (read_bytes (k + 1) l)
+
+-- A header of that KID and CTR, n bytes long.
+abbrev pub header_of : (kid : Kid) (ctr : Ctr) (n : ℕ) → Option Header
+header_of kid ctr n = Some (record { kid = kid; ctr = ctr; length = n })
 
 -- The header of a KID that took a bytes and of the CTR that was read after it.
-unfoldable pub with_counter : (kid a : ℕ) (counter : Field) → Reading
-with_counter kid a Refused = Invalid
-with_counter kid a (Value ctr c) = Header (record { 0 = kid }) (record { 0 = ctr }) (1 + a + c)
+unfoldable pub with_counter : (kid a : ℕ) (counter : Option Field) → Option Header
+with_counter kid a None = None
+with_counter kid a (Some ctr) = header_of (record { 0 = kid }) (record { 0 = ctr.value }) (1 + a + ctr.width)
 
 -- The CTR of the config byte b, after the KID that was read at the front of l.
-unfoldable pub read_counter : (b : ℕ) (l : List ℕ) (kid : Field) → Reading
-read_counter b l Refused = Invalid
-read_counter b l (Value kid a) = with_counter kid a (read_field (b / 8 % 2) (b % 8) (drop a l))
+unfoldable pub read_counter : (b : ℕ) (l : List ℕ) (kid : Option Field) → Option Header
+read_counter b l None = None
+read_counter b l (Some kid) = with_counter kid.value kid.width (read_field (b / 8 % 2) (b % 8) (drop kid.width l))
 
 -- The header at the front of l. Cause 10: it is cut short.
-unfoldable pub read_header : List ℕ → Reading
-read_header [] = Invalid
+unfoldable pub read_header : List ℕ → Option Header
+read_header [] = None
 read_header (b ∷ l) = read_counter b l (read_field (b / 128) (b / 16 % 8) l)
 
 -- How many bytes of a field with flag x and three bits k follow the config byte.

@@ -21,23 +21,17 @@ pub struct Ctr(pub u64);
 
 // A field of the header as it was read: its value, and how many bytes of it follow the config byte.
 #[derive(Clone, Copy)]
-pub enum Field {
-    Value(u64, usize),
-    Refused,
+struct Field {
+    value: u64,
+    width: usize,
 }
 
-// What stands at the front of some bytes: a header with its length, or none.
+// A header as it was read, and its length in bytes.
 #[derive(Clone, Copy)]
-pub enum Reading {
-    Header(Kid, Ctr, usize),
-    Invalid,
-}
-
-// What writing a header answers: its length, or that the room is too short for it.
-#[derive(Clone, Copy)]
-pub enum Written {
-    Length(usize),
-    NoRoom,
+pub struct Header {
+    pub kid: Kid,
+    pub ctr: Ctr,
+    pub length: usize,
 }
 
 // The least number of bytes that a number above 0 takes.
@@ -62,8 +56,8 @@ fn bits_of(v: u64, n: usize) -> u8
     if v < SMALL { v as u8 } else { (7 + n) as u8 }
 }
 
-// Writes the header of kid and ctr to the front of out.
-pub fn write_header(kid: Kid, ctr: Ctr, out: &mut [u8]) -> Written
+// Writes the header of kid and ctr to the front of out, and gives its length; None where the room is too short for it.
+pub fn write_header(kid: Kid, ctr: Ctr, out: &mut [u8]) -> Option<usize>
     ensures value { result ≡ (write_header kid.0 ctr.0 0 out.old).answer }
     ensures out_after { out.new ≡ (write_header kid.0 ctr.0 0 out.old).room }
     ensures ctr_len_bound { length (header kid.0 ctr.0) ≤ max_header }
@@ -72,17 +66,17 @@ pub fn write_header(kid: Kid, ctr: Ctr, out: &mut [u8]) -> Written
     let c = width_of(ctr.0);
     let n = 1 + k + c;
     if out.len() < n {
-        return Written::NoRoom;
+        return None;
     }
     out[0] = bits_of(kid.0, k) * 16 + bits_of(ctr.0, c);
     octets::write_be_at(out, 1, k, kid.0);
     octets::write_be_at(out, 1 + k, c, ctr.0);
-    Written::Length(n)
+    Some(n)
 }
 
 // Writes the header of kid and ctr at an offset in out: the part from there on is lent to write_header, and none of it where
 // the offset lies past the end.
-pub fn write_header_at(kid: Kid, ctr: Ctr, out: &mut [u8], offset: usize) -> Written
+pub fn write_header_at(kid: Kid, ctr: Ctr, out: &mut [u8], offset: usize) -> Option<usize>
     ensures value { result ≡ (write_header kid.0 ctr.0 offset out.old).answer }
     ensures out_after { out.new ≡ (write_header kid.0 ctr.0 offset out.old).room }
 {
@@ -90,35 +84,41 @@ pub fn write_header_at(kid: Kid, ctr: Ctr, out: &mut [u8], offset: usize) -> Wri
     write_header(kid, ctr, &mut out[from..])
 }
 
-// Reads a field with the flag x and the three bits k, whose bytes would stand at the front of rest.
-fn read_field(x: u8, k: u8, rest: &[u8]) -> Field
+// Reads a field with the flag x and the three bits k, whose bytes would stand at the front of rest; None where it is cut short.
+fn read_field(x: u8, k: u8, rest: &[u8]) -> Option<Field>
     requires { k < 8 }
     ensures { result ≡ read_field x k rest.now }
 {
     if x == 0 {
-        return Field::Value(k as u64, 0);
+        return Some(Field {
+            value: k as u64,
+            width: 0,
+        });
     }
     let n = k as usize + 1;
     if rest.len() < n {
-        return Field::Refused;
+        return None;
     }
-    Field::Value(octets::read_be(rest, n), n)
+    Some(Field {
+        value: octets::read_be(rest, n),
+        width: n,
+    })
 }
 
-// Reads the header at the front of bytes, whatever follows it.
-pub fn read_header(bytes: &[u8]) -> Reading
+// Reads the header at the front of bytes, whatever follows it; None where it is cut short.
+pub fn read_header(bytes: &[u8]) -> Option<Header>
     ensures { result ≡ read_header bytes.now }
 {
     if bytes.len() == 0 {
-        return Reading::Invalid;
+        return None;
     }
     let b = bytes[0];
-    let Field::Value(kid, a) = read_field(b / 128, b / 16 % 8, &bytes[1..]) else {
-        return Reading::Invalid;
-    };
-    let at = 1 + a;
-    let Field::Value(ctr, c) = read_field(b / 8 % 2, b % 8, &bytes[at..]) else {
-        return Reading::Invalid;
-    };
-    Reading::Header(Kid(kid), Ctr(ctr), at + c)
+    let kid = read_field(b / 128, b / 16 % 8, &bytes[1..])?;
+    let at = 1 + kid.width;
+    let ctr = read_field(b / 8 % 2, b % 8, &bytes[at..])?;
+    Some(Header {
+        kid: Kid(kid.value),
+        ctr: Ctr(ctr.value),
+        length: at + ctr.width,
+    })
 }

@@ -1,5 +1,6 @@
 -- SPDX-License-Identifier: MIT
 -- What opening does to the table. Assumes nothing.
+use Rattle.std.specs.Prelude.{Option, Some, None}
 use mathlib.Core.Path.{◌≡◌, refl, sym, ◌∙◌, ap, ap₂}
 use mathlib.Core.Bool.{Bool, true, false, false≢true}
 use mathlib.Core.List.{List, [], ◌++◌}
@@ -9,8 +10,7 @@ use lib.ListN.{length, drop}
 use Rattle.octets.specs.Octets.{Octets}
 use Rattle.header.specs.Header.{read_header}
 use Rattle.header.specs.Answers.{read_kid, read_ctr}
-use Rattle.header.specs.declared.Reading.{Reading}
-use Rattle.header.specs.declared.Reading.TheVariants.{Header, Invalid}
+use Rattle.header.specs.declared.Header.{Header}
 use Rattle.header.proofs.Laws.{header_read}
 use Rattle.answers.specs.Answers.{Outcome}
 use Rattle.answers.proofs.Basics.{Settled, success, refusal, settle}
@@ -44,9 +44,9 @@ pub data OpenStep (s : List ℕ) (rs : List KeyRecord) (kid ctr : ℕ) (o : Outc
 ctr-below : (bytes : List ℕ) → Octets bytes → read_ctr (read_header bytes) < 2 ^ 64
 ctr-below bytes o = by (read_header bytes) refl
   where
-    by : (h : Reading) → read_header bytes ≡ h → read_ctr (read_header bytes) < 2 ^ 64
-    by (Header k c n) e = rw e (header_read bytes k c n o e).ctr-below
-    by Invalid e = rw e (omega arith)
+    by : (h : Option Header) → read_header bytes ≡ h → read_ctr (read_header bytes) < 2 ^ 64
+    by (Some h) e = rw e (header_read bytes h.kid h.ctr h.length o e).ctr-below
+    by None e = rw e (omega arith)
 
 moved-in-range : (w : Window) (ctr : ℕ) → InRange w → seen w ctr ≡ false → too_old w ctr ≡ false → ctr < 2 ^ 64 → InRange (moved w ctr)
 moved-in-range w ctr f a b h =

@@ -2,10 +2,10 @@
 -- Opening a frame: number, length, store and room afterwards, for every input. The causes of refusal stand in the order in
 -- which they are tried.
 -- Assumes nothing.
-use Rattle.std.specs.Prelude.{Bool, true, false, not, List, [], ◌∷◌, ◌++◌, ℕ, ◌-◌, ltb, eqb, length, take, drop}
+use Rattle.std.specs.Prelude.{Option, Bool, true, false, not, List, [], ◌∷◌, ◌++◌, ℕ, ◌-◌, ltb, eqb, length, take, drop}
 use Rattle.header.specs.Header.{read_header}
 use Rattle.header.specs.Answers.{header_invalid, room_short, read_number, read_kid, read_ctr, read_length}
-use Rattle.header.specs.declared.Reading.{Reading}
+use Rattle.header.specs.declared.Header.{Header}
 use Rattle.answers.specs.Answers.{store_invalid, kid_missing, role_refused, input_too_long, frame_short, tag_differs, already_opened, counter_too_old, Cause, ◌if◌, first, Outcome, settled}
 use Rattle.answers.specs.Limits.{too_long}
 use Rattle.store.specs.Cipher.{Cipher, Decrypted, plain, differs}
@@ -25,7 +25,7 @@ is_differs differs = true
 
 -- reading is what the frame's header reads as, held the record that holds its KID, given what the frame decrypts to; metadata and
 -- room are lengths, and so are behind, what stands behind the header, and plaintext, what stands between header and tag
-unfoldable pub open_causes : (valid : Bool) (reading : Reading) (held : KeyRecord) (metadata behind plaintext room : ℕ) (given : Decrypted) → List Cause
+unfoldable pub open_causes : (valid : Bool) (reading : Option Header) (held : KeyRecord) (metadata behind plaintext room : ℕ) (given : Decrypted) → List Cause
 open_causes valid reading held metadata behind plaintext room given =
     (store_invalid if not valid)
     ∷ (header_invalid if eqb (read_number reading) header_invalid)
@@ -40,23 +40,23 @@ open_causes valid reading held metadata behind plaintext room given =
     ∷ []
 
 -- How many bytes stand between header and tag.
-unfoldable pub plain_length : (reading : Reading) (held : KeyRecord) (frame : List ℕ) → ℕ
+unfoldable pub plain_length : (reading : Option Header) (held : KeyRecord) (frame : List ℕ) → ℕ
 plain_length reading held frame = length frame - read_length reading - tag_size (suite_of held)
 
 module _ (cipher : Cipher) where
   -- What the bytes after the frame's header decrypt to, under the frame's own counter. The associated data is the frame's own header, then the metadata.
-  unfoldable pub decrypted : (reading : Reading) (held : KeyRecord) (metadata frame : List ℕ) → Decrypted
+  unfoldable pub decrypted : (reading : Option Header) (held : KeyRecord) (metadata frame : List ℕ) → Decrypted
   decrypted reading held metadata frame =
       cipher.decrypt (suite_of held) (key_of held) (cipher.nonce (salt_of held) (read_ctr reading)) (take (read_length reading) frame ++ metadata) (drop (read_length reading) frame)
 
   -- The causes of an Open.
-  unfoldable pub causes_of_open : (valid : Bool) (reading : Reading) (held : KeyRecord) (metadata frame room : List ℕ) → List Cause
+  unfoldable pub causes_of_open : (valid : Bool) (reading : Option Header) (held : KeyRecord) (metadata frame room : List ℕ) → List Cause
   causes_of_open valid reading held metadata frame room =
       open_causes valid reading held (length metadata) (length frame - read_length reading) (plain_length reading held frame) (length room) (decrypted reading held metadata frame)
 
   -- The plaintext stands at the start of the room, and the frame's counter is noted in the window of the record. No other record
   -- changes, and a frame that is not opened changes none.
-  unfoldable pub open_at : (valid : Bool) (reading : Reading) (held : KeyRecord) (rs : List KeyRecord) (s metadata frame room : List ℕ) → Outcome
+  unfoldable pub open_at : (valid : Bool) (reading : Option Header) (held : KeyRecord) (rs : List KeyRecord) (s metadata frame room : List ℕ) → Outcome
   open_at valid reading held rs s metadata frame room =
       let p = plain_of (decrypted reading held metadata frame) in
       settled (first (causes_of_open valid reading held metadata frame room)) s room

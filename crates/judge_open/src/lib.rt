@@ -3,42 +3,36 @@
 #![tactic(auto)]
 
 ghost use Rattle.std.specs.Prelude.{◌≡◌, true, length};
+ghost use Rattle.answers.specs.Refusals.{number_of};
 ghost use Rattle.key_record.specs.Layout.{record_size, decode};
 ghost use Rattle.key_record.specs.Record.{is_receiving, window_of};
 ghost use Rattle.judge_open.specs.Inner.Counters.{counter_answer};
 ghost use Rattle.judge_open.specs.Inner.Rooms.{room_for};
 
-use answers::{ALREADY_OPENED, COUNTER_TOO_OLD, DONE};
+use answers::Refusal;
 use header::Ctr;
 
-// Whether a room takes so many bytes.
-#[derive(Clone, Copy)]
-pub enum Room {
-    Enough(usize),
-    Short,
-}
-
-// Whether a room of that length takes n bytes.
-pub fn room_for(room: usize, n: usize) -> Room
+// The n bytes that a room of that length is to take; None where they are more.
+pub fn room_for(room: usize, n: usize) -> Option<usize>
     ensures { result ≡ room_for room n }
 {
     if room < n {
-        return Room::Short;
+        return None;
     }
-    Room::Enough(n)
+    Some(n)
 }
 
-// What the window of a receiving record has against a counter: 14, 15, or nothing, which is 0.
-pub fn judge_counter(row: &[u8], ctr: Ctr) -> u32
+// What the window of a receiving record has against a counter: 14, 15, or nothing.
+pub fn judge_counter(row: &[u8], ctr: Ctr) -> Result<(), Refusal>
     requires { (length row.now ≡ record_size) × (is_receiving (decode row.now) ≡ true) }
-    ensures { result ≡ counter_answer (window_of (decode row.now)) ctr.0 }
+    ensures { number_of result ≡ counter_answer (window_of (decode row.now)) ctr.0 }
 {
     let w = key_record::row::window_of(row);
     if window::is_seen(w, ctr.0) {
-        return ALREADY_OPENED;
+        return Err(Refusal::AlreadyOpened);
     }
     if window::is_too_old(w, ctr.0) {
-        return COUNTER_TOO_OLD;
+        return Err(Refusal::CounterTooOld);
     }
-    DONE
+    Ok(())
 }

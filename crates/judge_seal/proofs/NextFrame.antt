@@ -1,5 +1,6 @@
 -- SPDX-License-Identifier: MIT
 -- The frame that a sending record gives next: its header, its length, its parts. Assumes nothing.
+use Rattle.std.specs.Prelude.{Option, Some, None}
 use mathlib.Core.Path.{◌≡◌, sym, ◌∙◌, ap, ap₂}
 use mathlib.Core.Bool.{true}
 use mathlib.Core.List.{List, ◌++◌}
@@ -10,8 +11,6 @@ use lib.ListN.{length, drop}
 use borrow.Author.Tests.{le-leb}
 use Rattle.octets.proofs.Laws.{pasted-front}
 use Rattle.header.specs.Header.{max_header, header, write_header}
-use Rattle.header.specs.declared.Written.{Written}
-use Rattle.header.specs.declared.Written.TheVariants.{Length, NoRoom}
 use Rattle.answers.specs.Limits.{max_plaintext}
 use Rattle.suites.specs.Suites.{Nt}
 use Rattle.suites.specs.Inner.Sizes.{max_nt}
@@ -28,21 +27,21 @@ use Rattle.judge_seal.specs.Seal.{next_length, next_frame}
 
 -- ---- the header of the next frame
 
-length-is : (a b : ℕ) → Length a ≡ Length b → a ≡ b
+length-is : (a b : ℕ) → Some a ≡ Some b → a ≡ b
 length-is a b e = cc
 
-module _ (out : List ℕ) (kid v : ℕ) (w : Written) (h : max_header ≤ length out) (most : length (header kid v) ≤ max_header) (a : w ≡ (write_header kid v 0 out).answer) where
+module _ (out : List ℕ) (kid v : ℕ) (w : Option ℕ) (h : max_header ≤ length out) (most : length (header kid v) ≤ max_header) (a : w ≡ (write_header kid v 0 out).answer) where
   fits_in : leb (0 + length (header kid v)) (length out) ≡ true
   fits_in = le-leb (0 + length (header kid v)) (length out) (omega (arith, most))
 
-  pub header-has-room : w ≡ NoRoom → ⊥
+  pub header-has-room : w ≡ None → ⊥
   unfolding write_header
   header-has-room u =
-      let m : Length (length (header kid v)) ≡ NoRoom = (rw fits_in at (sym a)) ∙ u in
+      let m : Some (length (header kid v)) ≡ None = (rw fits_in at (sym a)) ∙ u in
       let z : ◌≡◌ {A = ℕ} 0 1 = cc in
       omega arith
 
-  pub header-written : (ctr n : ℕ) (x : List ℕ) → v ≡ ctr → w ≡ Length n → x ≡ (write_header kid v 0 out).room
+  pub header-written : (ctr n : ℕ) (x : List ℕ) → v ≡ ctr → w ≡ Some n → x ≡ (write_header kid v 0 out).room
       → ((n ≡ length (header kid ctr)) × (n ≤ max_header)) × (x ≡ header kid ctr ++ drop n out)
   unfolding write_header
   header-written ctr n x e u b =

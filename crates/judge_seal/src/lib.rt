@@ -5,14 +5,15 @@
 ghost use Rattle.std.specs.Prelude.{◌≡◌, true, false, ◌++◌, ◌≤◌, length, drop};
 ghost use Rattle.header.specs.Header.{max_header, header};
 ghost use Rattle.answers.specs.Answers.{first};
+ghost use Rattle.answers.specs.Refusals.{number_of};
 ghost use Rattle.answers.specs.Limits.{max_plaintext};
 ghost use Rattle.key_record.specs.Layout.{decode};
 ghost use Rattle.key_record.specs.Record.{is_empty, is_sending, counter_of};
 ghost use Rattle.key_record.specs.Inner.Rows.{Row, counter_left};
 ghost use Rattle.judge_seal.specs.Seal.{next_length, causes_of_seal};
 
-use answers::{COUNTER_SPENT, DONE, INPUT_TOO_LONG, ROLE_REFUSED, ROOM_SHORT, too_long};
-use header::{Kid, MAX_HEADER, Written};
+use answers::{Refusal, too_long};
+use header::{Kid, MAX_HEADER};
 
 // Writes the header of a sending record's next frame to the front of head.
 pub fn write_next(row: &[u8], kid: Kid, head: &mut [u8]) -> usize
@@ -21,7 +22,7 @@ pub fn write_next(row: &[u8], kid: Kid, head: &mut [u8]) -> usize
     ensures head_after { head.new ≡ header kid.0 (counter_of (decode row.now)) ++ drop result head.old }
 {
     let ctr = key_record::row::next_of(row);
-    let Written::Length(n) = header::write_header(kid, ctr, head) else {
+    let Some(n) = header::write_header(kid, ctr, head) else {
         return 0;
     };
     n
@@ -38,22 +39,28 @@ fn next_length(row: &[u8], kid: Kid, plaintext: usize) -> usize
     n + (plaintext + nt)
 }
 
-// The number of the first cause for which a held record refuses to seal; 0 where there is none.
-pub fn judge(row: &[u8], kid: Kid, metadata: usize, plaintext: usize, room: usize) -> u32
+// The first cause for which a held record refuses to seal.
+pub fn judge(
+    row: &[u8],
+    kid: Kid,
+    metadata: usize,
+    plaintext: usize,
+    room: usize,
+) -> Result<(), Refusal>
     requires { (Row row.now) × (is_empty (decode row.now) ≡ false) }
-    ensures { result ≡ first (causes_of_seal true (decode row.now) kid.0 metadata plaintext 0 room) }
+    ensures { number_of result ≡ first (causes_of_seal true (decode row.now) kid.0 metadata plaintext 0 room) }
 {
     if !key_record::row::is_sending(row) {
-        return ROLE_REFUSED;
+        return Err(Refusal::RoleRefused);
     }
     if !key_record::row::counter_left(row) {
-        return COUNTER_SPENT;
+        return Err(Refusal::CounterSpent);
     }
     if too_long(plaintext, metadata) {
-        return INPUT_TOO_LONG;
+        return Err(Refusal::InputTooLong);
     }
     if room < next_length(row, kid, plaintext) {
-        return ROOM_SHORT;
+        return Err(Refusal::RoomShort);
     }
-    DONE
+    Ok(())
 }

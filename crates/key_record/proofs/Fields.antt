@@ -1,5 +1,6 @@
 -- SPDX-License-Identifier: MIT
 -- One record's bytes, read and written in decoded values. Assumes nothing.
+use Rattle.std.specs.Prelude.{Option, Some, None}
 use mathlib.Core.Path.{◌≡◌, refl, sym, ◌∙◌, ap, ap₂}
 use mathlib.Core.Bool.{Bool, true, false, not, false≢true}
 use mathlib.Core.List.{List, [], ◌∷◌, ◌++◌, append_assoc, append-nil}
@@ -17,8 +18,6 @@ use Rattle.suites.specs.Suites as Suites
 use Rattle.suites.specs.Suites.{number_of, Nk, Nn}
 use Rattle.suites.specs.Derivation.{sframe_key, sframe_salt}
 use Rattle.suites.specs.declared.sizes.Suite.{Suite}
-use Rattle.suites.specs.declared.sizes.Found.{Found}
-use Rattle.suites.specs.declared.sizes.Found.TheVariants.{Known, Unknown}
 use Rattle.suites.proofs.Laws.{Nk-most, key-length, salt-length}
 use Rattle.window.specs.Window as Replay
 use Rattle.window.specs.Window.{moved}
@@ -154,12 +153,12 @@ module _ (l : List ℕ) (o : Octets l) (w : Row l) where
   pub row-bytes : encode (decode l) ≡ l
   row-bytes = (obeys-fits l o w.0 w.1).1
 
-  pub suite-never : (r : Found) → is_empty (decode l) ≡ false → r ≡ Suites.suite_of (get_or l suite_at 0) → r ≡ Unknown → ⊥
+  pub suite-never : (r : Option Suite) → is_empty (decode l) ≡ false → r ≡ Suites.suite_of (get_or l suite_at 0) → r ≡ None → ⊥
   suite-never r h e u =
       let k : is_suite (get_or l suite_at 0) ≡ true = ap is_suite (sym (field-suite l h)) ∙ fit-suite (decode l) row-fit h in
       false≢true (sym (suite-unnamed (get_or l suite_at 0) (sym e ∙ u)) ∙ k)
 
-  pub suite-told : (r : Found) (s : Suite) → is_empty (decode l) ≡ false → r ≡ Suites.suite_of (get_or l suite_at 0) → r ≡ Known s → Numbered s (suite_of (decode l))
+  pub suite-told : (r : Option Suite) (s : Suite) → is_empty (decode l) ≡ false → r ≡ Suites.suite_of (get_or l suite_at 0) → r ≡ Some s → Numbered s (suite_of (decode l))
   suite-told r s h e u = ap Suites.suite_of (field-suite l h) ∙ sym e ∙ u
 
   -- the byte that says whether the counters are spent, and both fields together

@@ -1,16 +1,14 @@
 -- SPDX-License-Identifier: MIT
 -- The cipher suites of RFC 9605, section 4.5, by number, as the store knows them: all of it is read off the table in
 -- crates/suites/specs/Suites.antt. Assumes nothing.
-use Rattle.std.specs.Prelude.{Bool, true, false, ℕ}
+use Rattle.std.specs.Prelude.{Option, Some, None, Bool, true, false, ℕ}
 use Rattle.suites.specs.Suites.{suite_of, Nk, Nt, Nn}
 use Rattle.suites.specs.declared.sizes.Suite.{Suite}
-use Rattle.suites.specs.declared.sizes.Found.{Found}
-use Rattle.suites.specs.declared.sizes.Found.TheVariants.{Known, Unknown}
 
 -- A function of the suite that was found, or something else where there is none.
-abbrev pub with_suite : {A : Type 0} → A → (Suite → A) → Found → A
-with_suite none f (Known s) = f s
-with_suite none f Unknown = none
+abbrev pub with_suite : {A : Type 0} → A → (Suite → A) → Option Suite → A
+with_suite none f (Some s) = f s
+with_suite none f None = none
 
 -- The number is a suite's.
 unfoldable pub is_suite : ℕ → Bool

@@ -10,7 +10,7 @@ use crate::{
     COUNTER, EMPTY, HIGHEST, KEY, LAST, LAYOUT_VERSION, MARK, MASK, RECEIVING, RETIRED, SALT,
     SENDING, SPENT, SUITE, VERSION,
 };
-use suites::sizes::{Aes128GcmSha256, Found};
+use suites::sizes::Aes128GcmSha256;
 use window::Window;
 
 // The room for a key is tested for zeros in blocks of so many bytes: fixed lengths compile to few instructions.
@@ -21,8 +21,8 @@ fn is_suite(n: u8) -> bool
     ensures { result ≡ is_suite n }
 {
     match suites::sizes::find(n as u64) {
-        Found::Known(_) => true,
-        Found::Unknown => false,
+        Some(_) => true,
+        None => false,
     }
 }
 

@@ -16,7 +16,7 @@ use crate::{
     SALT, SENDING, SPENT, SUITE, VERSION,
 };
 use header::{Ctr, Kid};
-use suites::sizes::{Found, Suite};
+use suites::sizes::Suite;
 use window::Window;
 
 // What a record is.
@@ -110,7 +110,7 @@ pub fn suite_of(row: &[u8]) -> Suite
     requires { (Row row.now) × (is_empty (decode row.now) ≡ false) }
     ensures { Numbered result (suite_of (decode row.now)) }
 {
-    let Found::Known(suite) = suites::sizes::find(row[SUITE] as u64) else {
+    let Some(suite) = suites::sizes::find(row[SUITE] as u64) else {
         return Suite::Ctr80;
     };
     suite

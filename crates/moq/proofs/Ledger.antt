@@ -1,5 +1,6 @@
 -- SPDX-License-Identifier: MIT
 -- What every list of calls keeps true of the track store and of the events so far. Assumes nothing.
+use Rattle.std.specs.Prelude.{Some}
 use mathlib.Core.Path.{◌≡◌, refl, sym, ◌∙◌, ap}
 use mathlib.Core.Bool.{Bool, true, false, false≢true}
 use mathlib.Core.List.{List, [], ◌∷◌}
@@ -15,7 +16,6 @@ use Rattle.answers.specs.Limits.{max_plaintext, max_metadata}
 use Rattle.answers.proofs.Basics.{Two, yes', no', two, settled-store}
 use Rattle.suites.specs.Suites.{suite_of}
 use Rattle.suites.specs.declared.sizes.Suite.{Suite}
-use Rattle.suites.specs.declared.sizes.Found.TheVariants.{Known}
 use Rattle.secure_objects.specs.Objects.{object_ceiling, counter, secured}
 use Rattle.track_record.specs.Record.{TrackId, same_track, Track, TrackRecord, empty, track, is_empty, sends, floor_of, fresh, advanced, retired}
 use Rattle.track_record.specs.declared.Kind.{Kind}
@@ -60,7 +60,7 @@ pub record Fact (x : Sealing) (earlier : List Event) : Type 0 where
   pub suite : Suite
   pub only : senders x.id earlier ≡ add ∷ []
   pub add-id : add.id ≡ x.id
-  pub known : suite_of add.suite ≡ Known suite
+  pub known : suite_of add.suite ≡ Some suite
   pub group-below : x.group < 2 ^ 64
   pub object-below : x.object < object_ceiling
   pub bytes-is : x.bytes ≡ secured suite (key_from suite add) (salt_from suite add) x.id.name x.id.key_id x.group x.object x.properties x.plaintext
@@ -84,7 +84,7 @@ pub record Source (t : Track) (l : List Adding) : Type 0 where
   pub add : Adding
   pub only : l ≡ add ∷ []
   pub id-is : add.id ≡ t.id
-  pub suite-is : suite_of add.suite ≡ Known t.suite
+  pub suite-is : suite_of add.suite ≡ Some t.suite
   pub salt-is : salt_from t.suite add ≡ t.salt
   pub key-is : key_from t.suite add ≡ t.key
 
@@ -193,7 +193,7 @@ retired-entry (track t) l e = tt
 module _ (rs : List TrackRecord) (log : List Event) (a : Account rs log) (id : TrackId) where
   -- ---- Add
 
-  module _ (suite : ℕ) (base : List ℕ) (s : Suite) (known : suite_of suite ≡ Known s) (rs' : List TrackRecord) (free : get id rs ≡ empty) where
+  module _ (suite : ℕ) (base : List ℕ) (s : Suite) (known : suite_of suite ≡ Some s) (rs' : List TrackRecord) (free : get id rs ≡ empty) where
     senders-none : senders id log ≡ []
     senders-none = rw free at (a.ledger id)
 

@@ -1,5 +1,6 @@
 -- SPDX-License-Identifier: MIT
 -- From what every list of calls keeps true to the claims about its sealed objects. Assumes nothing.
+use Rattle.std.specs.Prelude.{Option, Some}
 use mathlib.Core.Path.{◌≡◌, refl, sym, ◌∙◌, ap, ap₂}
 use mathlib.Core.Bool.{Bool, true, false, false≢true}
 use mathlib.Core.List.{List, [], ◌∷◌, ◌++◌}
@@ -10,8 +11,6 @@ use Rattle.octets.specs.Octets.{Octets}
 use Rattle.suites.specs.Suites.{suite_of, Nn}
 use Rattle.suites.specs.Derivation.{nonce}
 use Rattle.suites.specs.declared.sizes.Suite.{Suite}
-use Rattle.suites.specs.declared.sizes.Found.{Found}
-use Rattle.suites.specs.declared.sizes.Found.TheVariants.{Known}
 use Rattle.aead.proofs.Laws.{encrypt-bytes}
 use Rattle.secure_objects.specs.Objects.{counter, secured}
 use Rattle.secure_objects.proofs.Laws.{counter-below, counter-apart, nonces-apart, salt-length, secured-length}
@@ -54,7 +53,7 @@ one-is : (l : List Adding) (a b : Adding) → l ++ (b ∷ []) ≡ a ∷ [] → b
 one-is [] a b e = cc
 one-is (c ∷ l) a b e = absurd (omega (arith, simp length-append at (ap length e)))
 
-known_is : (f : Found) (s t : Suite) → f ≡ Known s → f ≡ Known t → s ≡ t
+known_is : (f : Option Suite) (s t : Suite) → f ≡ Some s → f ≡ Some t → s ≡ t
 known_is f s t p q = cc
 
 -- ---- one object
@@ -104,7 +103,7 @@ module _ (x y : Sealing) (between earlier : List Event) (f : Fact x (between ++ 
       ∙ sym (senders-append x.id between (sealed y ∷ earlier))
       ∙ p)
 
-  nonces : x.id ≡ y.id → (a b : Adding) (s t : Suite) → senders x.id (between ++ (sealed y ∷ earlier)) ≡ a ∷ [] → senders y.id earlier ≡ b ∷ [] → suite_of a.suite ≡ Known s → suite_of b.suite ≡ Known t
+  nonces : x.id ≡ y.id → (a b : Adding) (s t : Suite) → senders x.id (between ++ (sealed y ∷ earlier)) ≡ a ∷ [] → senders y.id earlier ≡ b ∷ [] → suite_of a.suite ≡ Some s → suite_of b.suite ≡ Some t
       → nonce_of s a x ≡ nonce_of t b y → ⊥
   nonces i a b s t p q u v e =
       let ba = one-add i a b p q in

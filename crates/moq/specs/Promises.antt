@@ -1,14 +1,13 @@
 -- SPDX-License-Identifier: MIT
 -- What holds after every list of calls on a track store: the words of it, and the whole of it.
 -- Assumes nothing.
-use Rattle.std.specs.Prelude.{◌≡◌, Bool, true, false, List, [], ◌∷◌, ◌++◌, ◌↔◌, ℕ, ◌-◌, ◌<◌, ◌≤◌, length, get_or, take, drop}
+use Rattle.std.specs.Prelude.{Some, ◌≡◌, Bool, true, false, List, [], ◌∷◌, ◌++◌, ◌↔◌, ℕ, ◌-◌, ◌<◌, ◌≤◌, length, get_or, take, drop}
 use Rattle.octets.specs.Octets.{Octets, pick, both}
 use Rattle.answers.specs.Answers.{done, Outcome}
 use Rattle.answers.specs.Limits.{max_plaintext, max_metadata}
 use Rattle.suites.specs.Suites.{suite_of, Nt}
 use Rattle.suites.specs.Derivation.{nonce}
 use Rattle.suites.specs.declared.sizes.Suite.{Suite}
-use Rattle.suites.specs.declared.sizes.Found.TheVariants.{Known}
 use Rattle.secure_objects.specs.Derivation.{moq_key, moq_salt}
 use Rattle.secure_objects.specs.Objects.{object_ceiling, counter, secured}
 use Rattle.track_record.specs.Record.{TrackId, same_track, Track, empty, track}
@@ -95,7 +94,7 @@ pub record Object (x : Sealing) (earlier : List Event) : Type 0 where
   pub only : senders x.id earlier ≡ add ∷ []
   pub its-track : add.id ≡ x.id
   pub suite : Suite
-  pub its-suite : suite_of add.suite ≡ Known suite
+  pub its-suite : suite_of add.suite ≡ Some suite
   -- it was sealed under that Add's suite, and the key and salt derived from it: it is the draft's object
   pub sealed-under : x.bytes ≡ secured suite (key_from suite add) (salt_from suite add) x.id.name x.id.key_id x.group x.object x.properties x.plaintext
   -- every sound store that holds that track, suite, key and salt for receiving opens it under its name, Key ID and pair, given its
@@ -108,7 +107,7 @@ pub record Pair (x : Sealing) (before-x : List Event) (y : Sealing) (before-y : 
   -- under one name and Key ID they do not have the same pair
   pub pairs-apart : x.id ≡ y.id → x.group ≡ y.group → x.object ≡ y.object → ⊥
   -- and do not use one nonce
-  pub nonces-apart : x.id ≡ y.id → (a b : Adding) (s t : Suite) → senders x.id before-x ≡ a ∷ [] → senders y.id before-y ≡ b ∷ [] → suite_of a.suite ≡ Known s → suite_of b.suite ≡ Known t
+  pub nonces-apart : x.id ≡ y.id → (a b : Adding) (s t : Suite) → senders x.id before-x ≡ a ∷ [] → senders y.id before-y ≡ b ∷ [] → suite_of a.suite ≡ Some s → suite_of b.suite ≡ Some t
       → nonce_of s a x ≡ nonce_of t b y → ⊥
 
 -- The whole claim, of all the events of a list.

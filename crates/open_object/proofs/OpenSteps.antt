@@ -1,5 +1,6 @@
 -- SPDX-License-Identifier: MIT
 -- The steps of opening an object, over plain variables. Assumes nothing.
+use Rattle.std.specs.Prelude.{Option, Some, None}
 use mathlib.Core.Path.{◌≡◌, refl, sym, ◌∙◌, ap, ap₂}
 use mathlib.Core.Bool.{Bool, true, false, not, false≢true}
 use mathlib.Core.List.{List, [], ◌++◌}
@@ -17,7 +18,6 @@ use Rattle.answers.proofs.Limits.{not-long}
 use Rattle.suites.specs.Suites.{Nt}
 use Rattle.aead.specs.Aead.{Decrypted, plain, differs, is_plain, room_after}
 use Rattle.suites.specs.declared.sizes.Suite.{Suite}
-use Rattle.suites.specs.declared.sizes.Found.TheVariants.{Known}
 use Rattle.secure_objects.specs.Objects.{name_most, object_ceiling, unsecured}
 use Rattle.secure_objects.proofs.Laws.{unsecured-only, secured-length}
 use Rattle.track_record.specs.Layout.{decode}
@@ -28,8 +28,6 @@ use Rattle.track_record.proofs.Records.{holds-some, holds-name, Told}
 use Rattle.tracks.specs.Tracks.{records, sound}
 use Rattle.tracks.specs.Table.{get}
 use Rattle.tracks.specs.Inner.Places.{RowOf, FoundIn}
-use Rattle.tracks.specs.declared.Place.{Place}
-use Rattle.tracks.specs.declared.Place.TheVariants.{At, Nowhere}
 use Rattle.tracks.proofs.Stores.{sound-stored, get_fit}
 use Rattle.open_object.specs.Open.{plain_of, is_differs, open_causes, decrypted_under, open_at, opening}
 
@@ -126,7 +124,7 @@ pub sizes-told : (held : TrackRecord) (object properties sealed room : ℕ) (k :
     → (Nt s ≤ sealed) × (sealed - Nt s ≤ max_plaintext) × (sealed - Nt s ≤ room)
 sizes-told held object properties sealed room k s t c = (omega (arith, t.tag_is, c.tag-inside), omega (arith, t.tag_is, c.plaintext-most), omega (arith, t.tag_is, c.room-enough))
 
-pub under-is : (held : TrackRecord) (s : Suite) (id : TrackId) (group object : ℕ) (properties sealed : List ℕ) → suite_in held ≡ Known s
+pub under-is : (held : TrackRecord) (s : Suite) (id : TrackId) (group object : ℕ) (properties sealed : List ℕ) → suite_in held ≡ Some s
     → decrypted_under held id group object properties sealed ≡ unsecured s (key_of held) (salt_of held) id.name id.key_id group object properties sealed
 unfolding decrypted_under
 under-is empty s id group object properties sealed e = let z : ◌≡◌ {A = ℕ} 0 1 = cc in absurd (omega arith)
@@ -209,13 +207,13 @@ pub open-unsound : (s : List ℕ) (id : TrackId) (group object : ℕ) (propertie
 unfolding opening open_at open_causes first settled
 open-unsound s id group object properties sealed room r e t = let z = told-false r _ e t in ((rw z, rw z), rw z)
 
-module _ (s : List ℕ) (id : TrackId) (group object : ℕ) (properties sealed room : List ℕ) (is-sound : sound s ≡ true) (p : Place) (f : FoundIn p id (records s)) where
-  pub open-missing : p ≡ Nowhere → Gives (opening s id group object properties sealed room) kid_missing 0 room
+module _ (s : List ℕ) (id : TrackId) (group object : ℕ) (properties sealed room : List ℕ) (is-sound : sound s ≡ true) (p : Option ℕ) (f : FoundIn p id (records s)) where
+  pub open-missing : p ≡ None → Gives (opening s id group object properties sealed room) kid_missing 0 room
   unfolding opening open_at open_causes first settled
   open-missing q = let g : get id (records s) ≡ empty = rw q at f in ((rw (is-sound, g), rw (is-sound, g)), rw (is-sound, g))
 
-  module _ (i : ℕ) (w : p ≡ At i) where
-    found : FoundIn (At i) id (records s)
+  module _ (i : ℕ) (w : p ≡ Some i) where
+    found : FoundIn (Some i) id (records s)
     found = rw w at f
 
     pub name-fits : Octets s → length id.name ≤ name_most

@@ -1,55 +1,43 @@
 -- SPDX-License-Identifier: MIT
 -- The steps of gathering the repeated pairs, over plain variables. Assumes nothing.
-use mathlib.Core.Path.{◌≡◌, refl, sym, ◌∙◌, ap, ap₂}
-use mathlib.Core.Bool.{Bool, true, false, not}
-use mathlib.Core.List.{List, [], ◌∷◌, ◌++◌, append-nil}
-use Prim.Native.Nat.{ℕ, zero, suc, ◌+◌, ◌*◌, ◌%◌, ◌^◌, ◌-◌, ◌<◌, ◌≤◌}
-use native.Mathlib.Nat.{sub-zero, suc-sub-suc, add-zero, zero-add}
-use native.Mathlib.Numerals.{add-one}
+use mathlib.Core.Path.{◌≡◌, refl, sym, ◌∙◌, ap, ap₂, subst}
+use mathlib.Core.Bool.{Bool, true, false, ◌&&◌}
+use mathlib.Core.List.{List, [], ◌∷◌, ◌++◌, append_assoc}
+use Prim.Native.Nat.{ℕ, zero, suc, ◌+◌, ◌*◌, ◌^◌, ◌-◌, ◌<◌, ◌≤◌}
+use native.Mathlib.Nat.{sub-zero}
 use native.Mathlib.Omega.{arith}
 use lib.Dec.{eqb, ltb}
-use lib.ListN.{length, get_or, take, drop, set, length-take, length-drop, length-set}
-use lib.Pow.{low}
-use lib.Seq.{append_snoc, take-suc, drop-cons, set_at, get_or_at, take-take, drop-drop, get_or-drop, length-take-le, drop-length, take_all}
-use borrow.Author.Tests.{lt-ltb, le-ltb, eq-eqb, ne_eqb, ltb-true, ltb-false, eqb-true, eqb-false, not-true, not-false}
+use lib.ListN.{length, get_or, take, drop, set, length-drop, length-append, take-append-drop}
+use lib.Seq.{take-suc, set_at, take-take, drop-drop, length-take-le}
+use borrow.Author.Tests.{lt-ltb, le-ltb, eq-eqb, ne_eqb, ltb-true, ltb-false, eqb-true, eqb-false}
 use borrow.Rule.Slice.PartMut.{put_mid}
-use Rattle.octets.specs.Octets.{both, number, pick}
+use Rattle.octets.specs.Octets.{number, pick}
 use Rattle.octets.proofs.Laws.{number-add, part-rest}
-use Rattle.answers.proofs.Basics.{Two, yes', no', two, both_true}
-use Rattle.pair_log.specs.Pairs.{record_size, pairs, among, inserted, repeated}
-use Rattle.pair_log.specs.Inner.Listed.{pair, listed, below}
-use Rattle.pair_log.proofs.Repeats.{repeated-half}
+use Rattle.std.proofs.Common.{Ordering, Less, Equal, Greater, nat_cmp}
+use Rattle.std.specs.Ordering.{ordering_then, ordering_index}
+use Rattle.std.specs.List.Sorted.{IsNonDecreasingBy, IsPartitionPoint}
+use Rattle.std.proofs.lemmas.Cmp.{ranked}
+use Rattle.std.proofs.lemmas.Bool.Decides.{nat_tests}
+use Rattle.std.proofs.lemmas.List.{take_at, drop_at, drop-take, length-map, map-append}
+use Rattle.answers.proofs.Basics.{Two, yes', no', two}
+use Rattle.pair_log.specs.Pairs.{record_size, pairs, among, inserted, repeated, Above, Rising}
+use Rattle.pair_log.specs.declared.pair.Pair.{Pair}
+use Rattle.pair_log.specs.Inner.Listed.{pair, value, listed}
+use Rattle.pair_log.proofs.Repeats.{repeated-half, repeated-rising}
 
 -- ---- pairs
 
-pair-below : (k c k2 c2 : ℕ) → c < 2 ^ 64 → k < k2 → pair k c < pair k2 c2
-pair-below k c k2 c2 h l = omega arith
-
-pub less-kid : (k c k2 c2 : ℕ) → c < 2 ^ 64 → k < k2 → true ≡ ltb (pair k c) (pair k2 c2)
-less-kid k c k2 c2 h l = sym (lt-ltb (pair k c) (pair k2 c2) (pair-below k c k2 c2 h l))
-
-pub more-kid : (k c k2 c2 : ℕ) → c2 < 2 ^ 64 → k2 < k → false ≡ ltb (pair k c) (pair k2 c2)
-more-kid k c k2 c2 h l = let b = pair-below k2 c2 k c h l in sym (le-ltb (pair k c) (pair k2 c2) (omega (arith, b)))
-
-pub same-kid : (k c k2 c2 : ℕ) → k2 ≤ k → k ≤ k2 → ltb c c2 ≡ ltb (pair k c) (pair k2 c2)
-same-kid k c k2 c2 h l = by (two (ltb c c2))
+pub pair_eq : (k c k2 c2 : ℕ) → c < 2 ^ 64 → c2 < 2 ^ 64 → (eqb k k2 && eqb c c2) ≡ eqb (pair k c) (pair k2 c2)
+pair_eq k c k2 c2 h l = by (two (eqb k k2)) (two (eqb c c2))
   where
-    by : Two (ltb c c2) → ltb c c2 ≡ ltb (pair k c) (pair k2 c2)
-    by (yes' t) = let b = ltb-true c c2 t in t ∙ sym (lt-ltb (pair k c) (pair k2 c2) (omega (arith, b)))
-    by (no' t) = let b = ltb-false c c2 t in t ∙ sym (le-ltb (pair k c) (pair k2 c2) (omega (arith, b)))
+    by : Two (eqb k k2) → Two (eqb c c2) → (eqb k k2 && eqb c c2) ≡ eqb (pair k c) (pair k2 c2)
+    by (yes' a) (yes' b) = rw (a, b) (sym (eq-eqb (pair k c) (pair k2 c2) (ap₂ pair (eqb-true k k2 a) (eqb-true c c2 b))))
+    by (yes' a) (no' b) = rw (a, b) (sym (ne_eqb (pair k c) (pair k2 c2) (λ e. eqb-false c c2 b (omega (arith, e, eqb-true k k2 a)))))
+    by (no' a) b = rw a (sym (ne_eqb (pair k c) (pair k2 c2) (λ e. eqb-false k k2 a (omega (arith, e)))))
 
-pair-ctr : (k c k2 c2 : ℕ) → c < 2 ^ 64 → c2 < 2 ^ 64 → pair k c ≡ pair k2 c2 → c ≡ c2
-pair-ctr k c k2 c2 h l e = sym (low k 64 h) ∙ ap (λ (v : ℕ). v % 2 ^ 64) e ∙ low k2 64 l
-
-pub other-ctr : (k c k2 c2 : ℕ) → c < 2 ^ 64 → c2 < 2 ^ 64 → (c ≡ c2 → ⊥) → false ≡ eqb (pair k c) (pair k2 c2)
-other-ctr k c k2 c2 h l d = sym (ne_eqb (pair k c) (pair k2 c2) (λ e. d (pair-ctr k c k2 c2 h l e)))
-
-pub same-ctr : (k c k2 c2 : ℕ) → c ≡ c2 → eqb k k2 ≡ eqb (pair k c) (pair k2 c2)
-same-ctr k c k2 c2 e = by (two (eqb k k2))
-  where
-    by : Two (eqb k k2) → eqb k k2 ≡ eqb (pair k c) (pair k2 c2)
-    by (yes' t) = t ∙ sym (eq-eqb (pair k c) (pair k2 c2) (ap₂ pair (eqb-true k k2 t) e))
-    by (no' t) = let d = eqb-false k k2 t in t ∙ sym (ne_eqb (pair k c) (pair k2 c2) (λ q. d (omega arith)))
+-- whether a record's pair is another, of which its number is known
+pub same_pair : (p q : Pair) (n : ℕ) (r : Bool) → r ≡ (eqb p.kid q.kid && eqb p.ctr q.ctr) → value p ≡ n → r ≡ eqb n (value q)
+same_pair p q n r e f = e ∙ pair_eq p.kid p.ctr q.kid q.ctr p.fits q.fits ∙ ap (λ (v : ℕ). eqb v (value q)) f
 
 -- ---- records
 
@@ -99,241 +87,218 @@ module _ (v : ℕ) (log : List ℕ) (n i : ℕ) (s : Searching v log n i) where
       let z : n - i ≡ 0 = omega arith in
       sym (s.1 ∙ rw z)
 
--- ---- the place of a pair among those that are listed
+-- ---- a pair among those that are listed
 
-pub after_one : (l : List ℕ) (p : ℕ) → get_or (drop 1 l) p 0 ≡ get_or l (suc p) 0
-after_one [] p = refl
-after_one (a ∷ l) p = refl
+-- the order of pairs is that of their numbers
+abbrev pub pair_cmp : (p q : Pair) → Ordering
+pair_cmp p q = ordering_then (nat_cmp p.kid q.kid) (nat_cmp p.ctr q.ctr)
 
-pub listed-length : (n : ℕ) (ks cs : List ℕ) → length (listed n ks cs) ≡ n
-unfolding listed
-listed-length zero ks cs = refl
-listed-length (suc n) ks cs = ap suc (listed-length n (drop 1 ks) (drop 1 cs))
+cmp_below : (a b : ℕ) → a < b → nat_cmp a b ≡ Less
+cmp_below a b h = rw (lt-ltb a b h)
 
-pub listed_at : (n p : ℕ) (ks cs : List ℕ) → p < n → get_or (listed n ks cs) p 0 ≡ pair (get_or ks p 0) (get_or cs p 0)
-unfolding listed
-listed_at zero p ks cs h = absurd (omega arith)
-listed_at (suc n) zero ks cs h = refl
-listed_at (suc n) (suc p) ks cs h = listed_at n p (drop 1 ks) (drop 1 cs) (omega arith) ∙ ap₂ pair (after_one ks p) (after_one cs p)
+cmp_same : (a b : ℕ) → a ≡ b → nat_cmp a b ≡ Equal
+cmp_same a b e = rw (le-ltb a b (omega arith), eq-eqb a b e)
 
-abbrev listed-from : (n i : ℕ) (ks cs : List ℕ) → List ℕ
-listed-from n i ks cs = listed (n - i) (drop i ks) (drop i cs)
+cmp_above : (a b : ℕ) → b < a → nat_cmp a b ≡ Greater
+cmp_above a b h = rw (le-ltb a b (omega arith), ne_eqb a b (λ e. omega (arith, e, h)))
 
-pub listed-rest : (n i : ℕ) (ks cs : List ℕ) → i < n → listed-from n i ks cs ≡ pair (get_or ks i 0) (get_or cs i 0) ∷ listed-from n (i + 1) ks cs
-unfolding listed
-listed-rest n i ks cs h =
-    let e : n - i ≡ suc (n - (i + 1)) = omega arith in
-    let at : (l : List ℕ) → get_or (drop i l) 0 0 ≡ get_or l i 0 = λ l. get_or-drop i l 0 0 ∙ ap (λ (k : ℕ). get_or l k 0) (add-zero i) in
-    rw (e, at ks, at cs, drop-drop 1 i ks, drop-drop 1 i cs)
-
-abbrev pub Placing : (v : ℕ) (ks cs : List ℕ) (n i : ℕ) → Type 0
-Placing v ks cs n i = (i ≤ n) × (below v (listed n ks cs) ≡ i + below v (listed-from n i ks cs))
-
-pub place-starts : (v : ℕ) (ks cs : List ℕ) (n : ℕ) → Placing v ks cs n 0
-place-starts v ks cs n = (omega arith, rw (sub-zero, zero-add))
-
-module _ (v : ℕ) (ks cs : List ℕ) (n i : ℕ) (s : Placing v ks cs n i) where
-  module _ (h : i < n) (r : Bool) (e : r ≡ ltb (pair (get_or ks i 0) (get_or cs i 0)) v) where
-    placed : below v (listed n ks cs) ≡ i + pick r (suc (below v (listed-from n (i + 1) ks cs))) 0
-    unfolding below
-    placed = s.1 ∙ ap (λ (l : List ℕ). i + below v l) (listed-rest n i ks cs h) ∙ rw e
-
-    pub place-finds : not r ≡ true → (i ≡ below v (listed n ks cs)) × (i ≤ n)
-    place-finds t = (sym (placed ∙ rw (not-true r t) (add-zero i)), s.0)
-
-    pub place-goes-on : not r ≡ false → Placing v ks cs n (i + 1)
-    place-goes-on t =
-        let b = below v (listed-from n (i + 1) ks cs) in
-        let f : i + suc b ≡ i + 1 + b = omega arith in
-        (omega arith, placed ∙ rw (not-false r t) f)
-
-  pub place-ends : n ≤ i → (i ≡ below v (listed n ks cs)) × (i ≤ n)
-  unfolding below listed
-  place-ends h =
-      let z : n - i ≡ 0 = omega arith in
-      (sym (s.1 ∙ rw z (add-zero i)), s.0)
-
--- ---- one element more in front of an array
-
-abbrev pub Pushing : (x : ℕ) (l a : List ℕ) (last i : ℕ) → Type 0
-Pushing x l a last i = (length a ≡ length l) × (i ≤ length l) × (a ≡ take i (x ∷ l) ++ drop i l) × (last ≡ get_or (x ∷ l) i 0)
-
-pub push-starts : (x : ℕ) (l : List ℕ) → Pushing x l l x 0
-push-starts x l = (refl, omega arith, refl, refl)
-
-pub push-goes-on : (x : ℕ) (l a : List ℕ) (last i : ℕ) → Pushing x l a last i → i < length a → Pushing x l (set a i last) (get_or a i 0) (i + 1)
-push-goes-on x l a last i p h =
-    let k : i < length l = omega (arith, p.0) in
-    let t = take i (x ∷ l) in
-    let n : length t ≡ i = length-take-le i (x ∷ l) (omega arith) in
-    let e : a ≡ t ++ (get_or l i 0 ∷ drop (suc i) l) = p.2 ∙ ap (λ (r : List ℕ). t ++ r) (drop-cons l i 0 k) in
-    let q : set a i last ≡ take (i + 1) (x ∷ l) ++ drop (i + 1) l =
-    ap₂ (λ (r : List ℕ) (w : ℕ). set r i w) e p.3 ∙ set_at t (get_or l i 0) (drop (suc i) l) (get_or (x ∷ l) i 0) i n
-    ∙ sym (ap₂ (λ (r q : List ℕ). r ++ q) (ap (λ (m : ℕ). take m (x ∷ l)) (add-one i) ∙ take-suc (x ∷ l) i 0 (omega arith)) (ap (λ (m : ℕ). drop m l) (add-one i))
-    ∙ append_snoc t (get_or (x ∷ l) i 0) (drop (suc i) l)) in
-    let w : get_or a i 0 ≡ get_or (x ∷ l) (i + 1) 0 = ap (λ (r : List ℕ). get_or r i 0) e ∙ get_or_at t (get_or l i 0) (drop (suc i) l) 0 i n ∙ rw add-one in
-    (length-set a i last ∙ p.0, omega (arith, k), q, w)
-
-pub push-ends : (x : ℕ) (l a : List ℕ) (last i : ℕ) → Pushing x l a last i → length a ≤ i → a ≡ take (length l) (x ∷ l)
-push-ends x l a last i p h =
-    let e : i ≡ length l = omega (arith, p.0, p.1) in
-    p.2 ∙ ap (λ (k : ℕ). take k (x ∷ l) ++ drop k l) e ∙ ap (λ (r : List ℕ). take (length l) (x ∷ l) ++ r) (drop-length l) ∙ append-nil (take (length l) (x ∷ l))
-
--- ---- one pair more
-
--- x stands at index p, and what stood there up to index n is one place further
-abbrev opened : (p n x : ℕ) (l t : List ℕ) → List ℕ
-opened p n x l t = take p l ++ (x ∷ (take (n - p) (drop p l) ++ t))
-
-listed-front : (n : ℕ) (ks cs t u : List ℕ) → n ≤ length ks → n ≤ length cs → listed n (take n ks ++ t) (take n cs ++ u) ≡ listed n ks cs
-unfolding listed
-listed-front zero ks cs t u h k = refl
-listed-front (suc n) [] cs t u h k = absurd (omega arith)
-listed-front (suc n) (a ∷ ks) [] t u h k = absurd (omega arith)
-listed-front (suc n) (a ∷ ks) (b ∷ cs) t u h k = ap (λ (r : List ℕ). pair a b ∷ r) (listed-front n ks cs t u (omega arith) (omega arith))
-
-listed-opened : (p n k c : ℕ) (ks cs t u : List ℕ) → p ≤ n → n ≤ length ks → n ≤ length cs
-    → listed (suc n) (opened p n k ks t) (opened p n c cs u) ≡ take p (listed n ks cs) ++ (pair k c ∷ drop p (listed n ks cs))
-unfolding listed
-listed-opened zero n k c ks cs t u h i j = ap (λ (r : List ℕ). pair k c ∷ r) (rw sub-zero (listed-front n ks cs t u i j))
-listed-opened (suc p) zero k c ks cs t u h i j = absurd (omega arith)
-listed-opened (suc p) (suc n) k c [] cs t u h i j = absurd (omega arith)
-listed-opened (suc p) (suc n) k c (a ∷ ks) [] t u h i j = absurd (omega arith)
-listed-opened (suc p) (suc n) k c (a ∷ ks) (b ∷ cs) t u h i j =
-    ap (λ (r : List ℕ). pair a b ∷ r) (rw suc-sub-suc (listed-opened p n k c ks cs t u (omega arith) (omega arith) (omega arith)))
-
--- a push to the part from p up to n + 1
-lent-opened : (l r : List ℕ) (x p n : ℕ) → p ≤ n → n < length l → r ≡ take (length (take (n + 1 - p) (drop p l))) (x ∷ take (n + 1 - p) (drop p l))
-    → put_mid p (n + 1 - p) l r ≡ opened p n x l (drop (n + 1 - p) (drop p l))
-lent-opened l r x p n h k e =
-    let m : n + 1 - p ≡ suc (n - p) = omega arith in
-    let z : length (take (n + 1 - p) (drop p l)) ≡ suc (n - p) = length-take-le (n + 1 - p) (drop p l) (simp length-drop (omega arith)) ∙ m in
-    let f : r ≡ x ∷ take (n - p) (drop p l) = e ∙ rw z (ap (λ (t : List ℕ). x ∷ t) (take-take (n - p) (n + 1 - p) (drop p l) (omega arith))) in
-    rw f
-
--- v at the place where the lower ones end: new, or there already
-inserted_new : (v : ℕ) (l : List ℕ) → (below v l < length l → eqb (get_or l (below v l) 0) v ≡ false) → inserted v l ≡ take (below v l) l ++ (v ∷ drop (below v l) l)
-unfolding inserted below
-inserted_new v [] d = refl
-inserted_new v (w ∷ ws) d = by (two (ltb w v)) d (inserted_new v ws)
+cmp_value : (p q : Pair) → pair_cmp p q ≡ nat_cmp (value p) (value q)
+cmp_value p q = by (two (ltb p.kid q.kid)) (two (eqb p.kid q.kid)) (two (ltb p.ctr q.ctr)) (two (eqb p.ctr q.ctr))
   where
-    by : Two (ltb w v) → (below v (w ∷ ws) < length (w ∷ ws) → eqb (get_or (w ∷ ws) (below v (w ∷ ws)) 0) v ≡ false)
-        → ((below v ws < length ws → eqb (get_or ws (below v ws) 0) v ≡ false) → inserted v ws ≡ take (below v ws) ws ++ (v ∷ drop (below v ws) ws))
-        → inserted v (w ∷ ws) ≡ take (below v (w ∷ ws)) (w ∷ ws) ++ (v ∷ drop (below v (w ∷ ws)) (w ∷ ws))
-    by (yes' t) d r =
-        let h = ltb-true w v t in
-        let q = rw t at d in
-        rw (t, le-ltb v w (omega (arith, h)), ne_eqb w v (λ e. omega (arith, h, e))) (ap (λ (s : List ℕ). w ∷ s) (r (λ i. q (omega (arith, i)))))
-    by (no' t) d r =
-        let h = ltb-false w v t in
-        let q : eqb w v ≡ false = (rw t at d) (omega arith) in
-        rw (t, lt-ltb v w (omega (arith, h, eqb-false w v q)))
+    by : Two (ltb p.kid q.kid) → Two (eqb p.kid q.kid) → Two (ltb p.ctr q.ctr) → Two (eqb p.ctr q.ctr) → pair_cmp p q ≡ nat_cmp (value p) (value q)
+    by (yes' a) b c d =
+        let h = ltb-true p.kid q.kid a in
+        let f = p.fits in
+        rw a (sym (cmp_below (value p) (value q) (omega (arith, h, f))))
+    by (no' a) (yes' b) (yes' c) d =
+        let h = eqb-true p.kid q.kid b in
+        let k = ltb-true p.ctr q.ctr c in
+        rw (a, b, c) (sym (cmp_below (value p) (value q) (omega (arith, h, k))))
+    by (no' a) (yes' b) (no' c) (yes' d) =
+        let h = eqb-true p.kid q.kid b in
+        let k = eqb-true p.ctr q.ctr d in
+        rw (a, b, c, d) (sym (cmp_same (value p) (value q) (omega (arith, h, k))))
+    by (no' a) (yes' b) (no' c) (no' d) =
+        let h = eqb-true p.kid q.kid b in
+        let k = ltb-false p.ctr q.ctr c in
+        let n = eqb-false p.ctr q.ctr d in
+        let m : q.ctr < p.ctr = omega (arith, k, n) in
+        rw (a, b, c, d) (sym (cmp_above (value p) (value q) (omega (arith, h, m))))
+    by (no' a) (no' b) c d =
+        let h = ltb-false p.kid q.kid a in
+        let n = eqb-false p.kid q.kid b in
+        let m : q.kid < p.kid = omega (arith, h, n) in
+        let f = q.fits in
+        rw (a, b) (sym (cmp_above (value p) (value q) (omega (arith, m, f))))
 
-inserted-old : (v : ℕ) (l : List ℕ) → below v l < length l → eqb (get_or l (below v l) 0) v ≡ true → inserted v l ≡ l
-unfolding inserted below
-inserted-old v [] h e = absurd (omega arith)
-inserted-old v (w ∷ ws) h e = by (two (ltb w v)) h e (inserted-old v ws)
-  where
-    by : Two (ltb w v) → below v (w ∷ ws) < length (w ∷ ws) → eqb (get_or (w ∷ ws) (below v (w ∷ ws)) 0) v ≡ true
-        → (below v ws < length ws → eqb (get_or ws (below v ws) 0) v ≡ true → inserted v ws ≡ ws) → inserted v (w ∷ ws) ≡ w ∷ ws
-    by (yes' t) h e r =
-        let k = ltb-true w v t in
-        let i : suc (below v ws) < suc (length ws) = rw t at h in
-        let q : eqb (get_or ws (below v ws) 0) v ≡ true = rw t at e in
-        rw (le-ltb v w (omega (arith, k)), ne_eqb w v (λ z. omega (arith, k, z))) (ap (λ (s : List ℕ). w ∷ s) (r (omega (arith, i)) q))
-    by (no' t) h e r =
-        let q : eqb w v ≡ true = rw t at e in
-        let z = eqb-true w v q in
-        rw (le-ltb v w (omega (arith, z)), q)
+index_rises : (a b v : ℕ) → a ≤ b → ordering_index (nat_cmp a v) ≤ ordering_index (nat_cmp b v)
+index_rises a b v h = grind (arith, nat_tests)
 
--- whether a pair stands at an index
-pub at_none : (n i : ℕ) (b : Bool) → n ≤ i → false ≡ both (ltb i n) b
-at_none n i b h = rw (le-ltb i n h)
+value_at : (ps : List Pair) (k : ℕ) (d : Pair) → k < length ps → get_or (listed ps) k 0 ≡ value (get_or ps k d)
+value_at [] k d h = absurd (omega arith)
+value_at (p ∷ ps) zero d h = refl
+value_at (p ∷ ps) (suc k) d h = value_at ps k d (omega arith)
 
-pub at_some : (n i : ℕ) (b : Bool) → i < n → b ≡ both (ltb i n) b
-at_some n i b h = rw (lt-ltb i n h)
+-- v stands between the lower ones and the higher ones
+pub inserted_at : (v i : ℕ) (l : List ℕ) → i ≤ length l → ((k : ℕ) → k < i → get_or l k 0 < v) → ((k : ℕ) → i ≤ k → k < length l → v < get_or l k 0) → inserted v l ≡ take i l ++ (v ∷ drop i l)
+unfolding inserted
+inserted_at v zero [] h b a = refl
+inserted_at v zero (w ∷ ws) h b a = rw (lt-ltb v w (a 0 (omega arith) (omega arith)))
+inserted_at v (suc i) [] h b a = absurd (omega arith)
+inserted_at v (suc i) (w ∷ ws) h b a =
+    let k : w < v = b 0 (omega arith) in
+    rw (le-ltb v w (omega (arith, k)), ne_eqb w v (λ e. omega (arith, k, e)))
+    (ap (λ (t : List ℕ). w ∷ t) (inserted_at v i ws (omega arith) (λ j q. b (suc j) (omega arith)) (λ j q r. a (suc j) (omega arith) (omega arith))))
 
--- k and c, and the pair of them, are inserted at place p, where r says whether it stands already
-module _ (k c n p : ℕ) (ks cs : List ℕ) (e : p ≡ below (pair k c) (listed n ks cs)) (r : Bool) (q : r ≡ both (ltb p n) (eqb (pair (get_or ks p 0) (get_or cs p 0)) (pair k c))) where
-  pub insert-old : r ≡ true → listed n ks cs ≡ inserted (pair k c) (listed n ks cs)
-  insert-old t =
-      let l = listed n ks cs in
-      let b = both_true (ltb p n) (eqb (pair (get_or ks p 0) (get_or cs p 0)) (pair k c)) (sym q ∙ t) in
-      let h = ltb-true p n b.0 in
-      let i : below (pair k c) l < length l = rw (listed-length, ← e) h in
-      let f : eqb (get_or l (below (pair k c) l) 0) (pair k c) ≡ true = rw (← e, listed_at n p ks cs h) b.1 in
-      sym (inserted-old (pair k c) l i f)
+-- the first of a rising list is below each other one
+rising_below : (w : ℕ) (l : List ℕ) (i : ℕ) → Above w l → Rising l → i < length l → w < get_or l i 0
+rising_below w [] i a r h = absurd (omega arith)
+rising_below w (x ∷ l) zero a r h = a
+rising_below w (x ∷ l) (suc i) a r h =
+    let k : x < get_or l i 0 = rising_below x l i r.0 r.1 (omega arith) in
+    omega (arith, a, k)
 
-  -- both are pushed to their arrays
-  module _ (m : p ≤ n) (i : n < length ks) (j : n < length cs) (rk rc : List ℕ) (f : rk ≡ take (length (take (n + 1 - p) (drop p ks))) (k ∷ take (n + 1 - p) (drop p ks)))
-      (g : rc ≡ take (length (take (n + 1 - p) (drop p cs))) (c ∷ take (n + 1 - p) (drop p cs))) where
-    pushed : listed (n + 1) (put_mid p (n + 1 - p) ks rk) (put_mid p (n + 1 - p) cs rc) ≡ take p (listed n ks cs) ++ (pair k c ∷ drop p (listed n ks cs))
-    pushed =
-        rw (lent-opened ks rk k p n m i f, lent-opened cs rc c p n m j g, add-one) (listed-opened p n k c ks cs (drop (suc n - p) (drop p ks)) (drop (suc n - p) (drop p cs)) m (omega arith) (omega arith))
+-- v stands there already
+pub inserted_there : (v i : ℕ) (l : List ℕ) → Rising l → i < length l → get_or l i 0 ≡ v → inserted v l ≡ l
+unfolding inserted
+inserted_there v i [] r h e = absurd (omega arith)
+inserted_there v zero (w ∷ ws) r h e = rw (le-ltb v w (omega (arith, e)), eq-eqb w v e)
+inserted_there v (suc i) (w ∷ ws) r h e =
+    let k : w < get_or ws i 0 = rising_below w ws i r.0 r.1 (omega arith) in
+    rw (le-ltb v w (omega (arith, k, e)), ne_eqb w v (λ q. omega (arith, k, e, q))) (ap (λ (t : List ℕ). w ∷ t) (inserted_there v i ws r.1 (omega arith) e))
 
-    pub insert-new : r ≡ false → listed (n + 1) (put_mid p (n + 1 - p) ks rk) (put_mid p (n + 1 - p) cs rc) ≡ inserted (pair k c) (listed n ks cs)
-    insert-new t =
-        let l = listed n ks cs in
-        let other : below (pair k c) l < length l → eqb (get_or l (below (pair k c) l) 0) (pair k c) ≡ false =
-        λ h. (let w : p < n = rw e (rw listed-length at h) in rw (← e, listed_at n p ks cs w) (at_some n p (eqb (pair (get_or ks p 0) (get_or cs p 0)) (pair k c)) w ∙ sym q ∙ t)) in
-        pushed ∙ rw e (sym (inserted_new (pair k c) l other))
+pub rising-order : (l : List ℕ) → Rising l → (i j : ℕ) → i ≤ j → j < length l → get_or l i 0 ≤ get_or l j 0
+rising-order [] r i j h k = absurd (omega arith)
+rising-order (w ∷ ws) r zero zero h k = omega arith
+rising-order (w ∷ ws) r zero (suc j) h k = let b = rising_below w ws j r.0 r.1 (omega arith) in omega (arith, b)
+rising-order (w ∷ ws) r (suc i) zero h k = absurd (omega arith)
+rising-order (w ∷ ws) r (suc i) (suc j) h k = rising-order ws r.1 i j (omega arith) (omega arith)
+
+-- the search finds the pair q
+pub insert_old : (ps : List Pair) (q : Pair) (i : ℕ) → Rising (listed ps) → i < length ps → ((d : Pair) → pair_cmp (get_or ps i d) q ≡ Equal) → listed ps ≡ inserted (value q) (listed ps)
+insert_old ps q i r h e =
+    let c : nat_cmp (value (get_or ps i q)) (value q) ≡ Equal = sym (cmp_value (get_or ps i q) q) ∙ e q in
+    let f : value (get_or ps i q) ≡ value q = ranked (value (get_or ps i q)) (value q) Equal (sym c) in
+    sym (inserted_there (value q) i (listed ps) r (simp length-map (omega arith)) (value_at ps i q h ∙ f))
+
+-- or it finds the place of q, where the pairs rise
+module _ (ps : List Pair) (q : Pair) (i : ℕ) (r : Rising (listed ps)) (h : i ≤ length ps)
+    (e : IsNonDecreasingBy (λ (p : Pair). ordering_index (pair_cmp p q)) ps → IsPartitionPoint (λ (p : Pair). pair_cmp p q ≡ Less) (λ (p : Pair). pair_cmp p q ≡ Greater) ps i) where
+  rises : IsNonDecreasingBy (λ (p : Pair). ordering_index (pair_cmp p q)) ps
+  rises j k d m n =
+      let o : get_or (listed ps) j 0 ≤ get_or (listed ps) k 0 = rising-order (listed ps) r j k m (simp length-map (omega arith)) in
+      let a = value_at ps j d (omega arith) in
+      let b = value_at ps k d n in
+      rw (cmp_value (get_or ps j d) q, cmp_value (get_or ps k d) q) (index_rises (value (get_or ps j d)) (value (get_or ps k d)) (value q) (omega (arith, o, a, b)))
+
+  pub placed : inserted (value q) (listed ps) ≡ take i (listed ps) ++ (value q ∷ drop i (listed ps))
+  placed =
+      let f = e rises in
+      let low : (k : ℕ) → k < i → get_or (listed ps) k 0 < value q =
+      λ k m. (let c = sym (cmp_value (get_or ps k q) q) ∙ f.0 k q (omega arith) m in
+      let o : value (get_or ps k q) < value q = ranked (value (get_or ps k q)) (value q) Less (sym c) in
+      let a = value_at ps k q (omega arith) in omega (arith, o, a)) in
+      let high : (k : ℕ) → i ≤ k → k < length (listed ps) → value q < get_or (listed ps) k 0 =
+      λ k m n. (let s : k < length ps = simp length-map at n in
+      let c = sym (cmp_value (get_or ps k q) q) ∙ f.1 k q m s in
+      let o : value q < value (get_or ps k q) = ranked (value (get_or ps k q)) (value q) Greater (sym c) in
+      let a = value_at ps k q s in omega (arith, o, a)) in
+      inserted_at (value q) i (listed ps) (simp length-map (omega arith)) low high
+
+-- the first n, of which those from i on went one place up and q came before them
+module _ (all : List Pair) (n : ℕ) (q : Pair) (i : ℕ) (m : n < length all) (h : i ≤ n) (r : List Pair)
+    (e : r ≡ drop (length (take (n + 1 - i) (drop i all)) - 1) (take (n + 1 - i) (drop i all)) ++ take (length (take (n + 1 - i) (drop i all)) - 1) (take (n + 1 - i) (drop i all))) where
+  parted : listed (take (n + 1) (set (put_mid i (n + 1 - i) all r) i q)) ≡ take i (listed (take n all)) ++ (value q ∷ drop i (listed (take n all)))
+  parted =
+      let s = n + 1 - i in
+      let k = n - i in
+      let a = take i all in
+      let b = take k (drop i all) in
+      let x = get_or (drop i all) k q in
+      let t = drop s (drop i all) in
+      let z : s ≡ suc k = omega arith in
+      let ld : k < length (drop i all) = simp length-drop (omega arith) in
+      let la : length a ≡ i = length-take-le i all (omega arith) in
+      let lb : length b ≡ k = length-take-le k (drop i all) (omega arith) in
+      let part : take s (drop i all) ≡ b ++ (x ∷ []) = ap (λ (j : ℕ). take j (drop i all)) z ∙ take-suc (drop i all) k q ld in
+      let lp : length (take s (drop i all)) - 1 ≡ k = ap (λ (l : List Pair). length l - 1) part ∙ simp length-append (omega (arith, lb)) in
+      let f : r ≡ x ∷ b = e ∙ rw lp (ap₂ (λ (u v : List Pair). u ++ v) (ap (drop k) part ∙ drop_at b (x ∷ []) k lb) (ap (take k) part ∙ take_at b (x ∷ []) k lb)) in
+      let g : set (put_mid i s all r) i q ≡ a ++ (q ∷ (b ++ t)) = ap (λ (l : List Pair). set (a ++ (l ++ t)) i q) f ∙ set_at a x (b ++ t) q i la in
+      let w : a ++ (q ∷ (b ++ t)) ≡ (a ++ (q ∷ b)) ++ t = sym (append_assoc a (q ∷ b) t) in
+      let lw : length (a ++ (q ∷ b)) ≡ n + 1 = length-append a (q ∷ b) ∙ omega (arith, la, lb) in
+      let u : take (n + 1) (set (put_mid i s all r) i q) ≡ a ++ (q ∷ b) = ap (take (n + 1)) (g ∙ w) ∙ take_at (a ++ (q ∷ b)) t (n + 1) lw in
+      let j : i + k ≡ n = omega arith in
+      let c : take n all ≡ a ++ b = sym (take-append-drop i (take n all)) ∙ ap₂ (λ (u v : List Pair). u ++ v) (take-take i n all h) (ap (λ (y : ℕ). drop i (take y all)) (sym j) ∙ drop-take i k all) in
+      let l : listed (take n all) ≡ listed a ++ listed b = ap listed c ∙ map-append value a b in
+      let li : length (listed a) ≡ i = simp length-map la in
+      ap listed u ∙ map-append value a (q ∷ b)
+      ∙ sym (ap₂ (λ (u v : List ℕ). u ++ (value q ∷ v)) (ap (take i) l ∙ take_at (listed a) (listed b) i li) (ap (drop i) l ∙ drop_at (listed a) (listed b) i li))
+
+  pub insert_new : Rising (listed (take n all)) → (IsNonDecreasingBy (λ (p : Pair). ordering_index (pair_cmp p q)) (take n all) → IsPartitionPoint (λ (p : Pair). pair_cmp p q ≡ Less) (λ (p : Pair). pair_cmp p q ≡ Greater) (take n all) i)
+      → listed (take (n + 1) (set (put_mid i (n + 1 - i) all r) i q)) ≡ inserted (value q) (listed (take n all))
+  insert_new o f = parted ∙ sym (placed (take n all) q i o (omega (arith, length-take-le n all (omega arith))) f)
+
+pub listed_size : (ps : List Pair) (i : ℕ) → i ≤ length ps → length (listed (take i ps)) ≡ i
+listed_size ps i h = simp length-map (length-take-le i ps h)
 
 -- ---- the walk through the log, from its end
 
-abbrev pub Gathered : (log : List ℕ) (n found left : ℕ) (ks cs : List ℕ) → Type 0
-Gathered log n found left ks cs = (left ≤ n) × (listed found ks cs ≡ repeated (left-from n left log))
+abbrev pub Gathered : (log : List ℕ) (n found left : ℕ) (ps : List Pair) → Type 0
+Gathered log n found left ps = (left ≤ n) × (found ≤ length ps) × (listed (take found ps) ≡ repeated (left-from n left log))
 
-pub gather-starts : (log : List ℕ) (n : ℕ) (ks cs : List ℕ) → Gathered log n 0 n ks cs
-unfolding listed repeated pairs
-gather-starts log n ks cs =
+pub gather-starts : (log : List ℕ) (n : ℕ) (ps : List Pair) → Gathered log n 0 n ps
+unfolding repeated pairs
+gather-starts log n ps =
     let z : n - n ≡ 0 = omega arith in
-    (omega arith, rw z)
+    (omega arith, omega arith, rw z)
 
 -- at most half of what was walked is listed
-pub gather-room : (log : List ℕ) (n found left : ℕ) (ks cs : List ℕ) → Gathered log n found left ks cs → found + found ≤ n - left
-gather-room log n found left ks cs g =
-    let e : found ≡ length (repeated (left-from n left log)) = sym (listed-length found ks cs) ∙ ap length g.1 in
+pub gather-room : (log : List ℕ) (n found left : ℕ) (ps : List Pair) → Gathered log n found left ps → found + found ≤ n - left
+gather-room log n found left ps g =
+    let e : found ≡ length (repeated (left-from n left log)) = sym (listed_size ps found g.1) ∙ ap length g.2 in
     let h = repeated-half (left-from n left log) in
     let l = pairs-length (n - left) (drop (record_size * left) log) in
     omega (arith, e, h, l)
 
--- so one more has its place in arrays for half of all
-pub gather-fits : (log : List ℕ) (n found left : ℕ) (ks cs ks₀ cs₀ : List ℕ) → (length ks ≡ length ks₀) × (length cs ≡ length cs₀) × Gathered log n found left ks cs → 0 < left → n ≤ length ks₀ + length ks₀
-    → length ks₀ ≡ length cs₀ → (found < length ks) × (found < length cs)
-gather-fits log n found left ks cs ks₀ cs₀ g h k e =
-    let r = gather-room log n found left ks cs g.2 in
-    (omega (arith, r, h, k, g.0, g.2.0), omega (arith, r, h, k, e, g.1, g.2.0))
+-- so one more has its place where there is room for half of all
+pub gather-fits : (log : List ℕ) (n found left : ℕ) (ps : List Pair) → Gathered log n found left ps → 0 < left → n ≤ length ps + length ps → found < length ps
+gather-fits log n found left ps g h k =
+    let r = gather-room log n found left ps g in
+    omega (arith, r, h, k, g.0)
 
--- the walk goes one record down, to k and c at the front of a part; t is whether the pair stands behind it
-module _ (log : List ℕ) (n found left : ℕ) (ks cs : List ℕ) (g : Gathered log n found left ks cs) (h : 0 < left) (part : List ℕ)
-    (w : part ≡ take (length log - record_size * (left - 1)) (drop (record_size * (left - 1)) log)) (k c : ℕ) (p : k ≡ number 8 part) (q : c ≡ number 8 (take (length part - 8) (drop 8 part)))
-    (t : Bool) (e : t ≡ among (pair k c) (pairs (n - (left - 1) - 1) (take (length part - record_size) (drop record_size part)))) where
+pub gather-rises : (log : List ℕ) (n found left : ℕ) (ps : List Pair) → Gathered log n found left ps → Rising (listed (take found ps))
+gather-rises log n found left ps g = subst Rising (sym g.2) (repeated-rising (left-from n left log))
+
+-- the walk goes one record down, to the pair q at the front of a part; t is whether it stands behind it
+module _ (log : List ℕ) (n found left : ℕ) (ps : List Pair) (g : Gathered log n found left ps) (h : 0 < left) (part : List ℕ)
+    (w : part ≡ take (length log - record_size * (left - 1)) (drop (record_size * (left - 1)) log)) (q : Pair) (p : value q ≡ number record_size part)
+    (t : Bool) (e : t ≡ among (value q) (pairs (n - (left - 1) - 1) (take (length part - record_size) (drop record_size part)))) where
   part-is : part ≡ drop (record_size * (left - 1)) log
   part-is = w ∙ part-rest (record_size * (left - 1)) log
 
-  at-record : number record_size (drop (record_size * (left - 1)) log) ≡ pair k c
-  at-record = ap (number record_size) (sym part-is) ∙ record_is part k c p q
+  at-record : number record_size (drop (record_size * (left - 1)) log) ≡ value q
+  at-record = ap (number record_size) (sym part-is) ∙ sym p
 
-  unrolled : left-from n (left - 1) log ≡ pair k c ∷ left-from n left log
+  unrolled : left-from n (left - 1) log ≡ value q ∷ left-from n left log
   unrolled =
       let f : left - 1 + 1 ≡ left = omega arith in
       pairs-rest n (left - 1) log (omega (arith, g.0)) ∙ rw (at-record, f)
 
-  behind : t ≡ among (pair k c) (left-from n left log)
+  behind : t ≡ among (value q) (left-from n left log)
   behind =
       let f : n - (left - 1) - 1 ≡ n - left = omega (arith, g.0) in
       let d : record_size * (left - 1) + record_size ≡ record_size * left = omega arith in
       e ∙ rw (f, part-rest record_size part, part-is, drop-drop record_size (record_size * (left - 1)) log, d)
 
-  pub gather-inserts : t ≡ true → (r : ℕ) (ks2 cs2 : List ℕ) → listed r ks2 cs2 ≡ inserted (pair k c) (listed found ks cs) → Gathered log n r (left - 1) ks2 cs2
+  pub gather-inserts : t ≡ true → (r : ℕ) (ps2 : List Pair) → length ps2 ≡ length ps → found < length ps → (listed (take r ps2) ≡ inserted (value q) (listed (take found ps))) × (r ≤ found + 1) → Gathered log n r (left - 1) ps2
   unfolding repeated
-  gather-inserts s r ks2 cs2 w = (omega (arith, g.0), w ∙ ap (inserted (pair k c)) g.1 ∙ sym (ap repeated unrolled ∙ rw (sym behind ∙ s)))
+  gather-inserts s r ps2 z m w = (omega (arith, g.0), omega (arith, z, m, w.1), w.0 ∙ ap (inserted (value q)) g.2 ∙ sym (ap repeated unrolled ∙ rw (sym behind ∙ s)))
 
-  pub gather-passes : t ≡ false → Gathered log n found (left - 1) ks cs
+  pub gather-passes : t ≡ false → Gathered log n found (left - 1) ps
   unfolding repeated
-  gather-passes s = (omega (arith, g.0), g.1 ∙ sym (ap repeated unrolled ∙ rw (sym behind ∙ s)))
+  gather-passes s = (omega (arith, g.0), g.1, g.2 ∙ sym (ap repeated unrolled ∙ rw (sym behind ∙ s)))
 
-pub gather-ends : (log : List ℕ) (n found left : ℕ) (ks cs : List ℕ) → Gathered log n found left ks cs → left ≤ 0 → listed found ks cs ≡ repeated (pairs n log)
-gather-ends log n found left ks cs g h =
+pub gather-ends : (log : List ℕ) (n found left : ℕ) (ps : List Pair) → Gathered log n found left ps → left ≤ 0 → listed (take found ps) ≡ repeated (pairs n log)
+gather-ends log n found left ps g h =
     let z : left ≡ 0 = omega arith in
-    g.1 ∙ ap (λ (i : ℕ). repeated (left-from n i log)) z ∙ ap (λ (i : ℕ). repeated (pairs i log)) (sub-zero n)
+    g.2 ∙ ap (λ (i : ℕ). repeated (left-from n i log)) z ∙ ap (λ (i : ℕ). repeated (pairs i log)) (sub-zero n)

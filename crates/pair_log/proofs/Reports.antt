@@ -1,13 +1,12 @@
 -- SPDX-License-Identifier: MIT
 -- What is reported of a log, for those who use it. Assumes nothing.
-use mathlib.Core.Path.{◌≡◌, refl, sym, ◌∙◌, ap, ap₂}
-use mathlib.Core.Bool.{Bool, true, false}
+use mathlib.Core.Path.{◌≡◌, sym, ◌∙◌, ap, ap₂}
 use mathlib.Core.List.{List, [], ◌∷◌, ◌++◌}
-use Prim.Native.Nat.{ℕ, zero, suc, ◌+◌, ◌*◌, ◌/◌, ◌%◌, ◌^◌, ◌<◌, ◌≤◌}
+use Prim.Native.Nat.{ℕ, suc, ◌+◌, ◌*◌, ◌/◌, ◌%◌, ◌^◌, ◌<◌, ◌≤◌}
 use native.Mathlib.Nat.{mod-eq_of_lt}
 use native.Mathlib.Omega.{arith}
 use lib.Dec.{eqb, ltb}
-use lib.ListN.{length, drop, length-append}
+use lib.ListN.{length, drop}
 use lib.Seq.{drop_at, drop-drop}
 use borrow.Author.Tests.{ltb-true, ltb-false, eqb-true, eqb-false}
 use Rattle.octets.specs.Octets.{ascii, bytes, number}
@@ -16,7 +15,7 @@ use Rattle.answers.specs.Answers.{first, settled}
 use Rattle.answers.proofs.Basics.{Two, yes', no', two}
 use Rattle.pair_log.specs.Pairs.{record_size, pairs, repeated}
 use Rattle.pair_log.specs.Report.{max_log, digits, decimal, line, places, counted, pair_lines, listing, listing_of, report, written}
-use Rattle.pair_log.specs.Inner.Listed.{max_report, pair_size}
+use Rattle.pair_log.specs.Inner.Listed.{max_report}
 use Rattle.pair_log.proofs.Repeats.{repeated-half}
 use Rattle.pair_log.proofs.Gathering.{pairs-length}
 use Rattle.pair_log.proofs.Writing.{counted-length, listing-length, report-long, report-bad, report-whole}

@@ -1,26 +1,25 @@
 -- SPDX-License-Identifier: MIT
 -- The steps of writing the report, over plain variables. Assumes nothing.
 use mathlib.Core.Path.{◌≡◌, refl, sym, ◌∙◌, ap, ap₂}
-use mathlib.Core.Bool.{Bool, true, false}
 use mathlib.Core.List.{List, [], ◌∷◌, ◌++◌, append_assoc, append-nil}
 use Prim.Native.Nat.{ℕ, zero, suc, ◌+◌, ◌*◌, ◌/◌, ◌%◌, ◌^◌, ◌-◌, ◌<◌, ◌≤◌}
-use native.Mathlib.Nat.{add-zero, sub_self, sub-zero, pow-zero, pow-suc, div-one, div-div-eq-div-mul, zero-add, mod-lt}
-use native.Mathlib.Numerals.{add-one}
+use native.Mathlib.Nat.{add-zero, sub_self, sub-zero, pow-zero, pow-suc, div-one, div-div-eq-div-mul, mod-lt}
+use native.Mathlib.Numerals.{unary_clauses}
 use native.Mathlib.Omega.{arith}
-use lib.Dec.{eqb, ltb}
 use lib.ListN.{length, get_or, take, drop, set, length-append, length-set, length-drop, take-append-drop}
 use lib.Pow.{high, low}
 use lib.Seq.{take-suc, set_at, take-length, drop-drop, length-take-le}
 use borrow.Author.Tests.{lt-ltb, le-ltb, eq-eqb, ne_eqb}
 use borrow.Rule.Slice.PartMut.{put_mid}
-use Rattle.octets.specs.Octets.{ascii, pasted, pick}
+use Rattle.octets.specs.Octets.{ascii, pasted}
 use Rattle.octets.proofs.Laws.{pasted-append, pasted_length, pasted-front, set-pasted}
 use Rattle.header.specs.Answers.{room_short}
-use Rattle.answers.specs.Answers.{done, ◌if◌, first, Outcome, settled}
+use Rattle.answers.specs.Answers.{done, first, Outcome, settled}
 use Rattle.pair_log.specs.Pairs.{record_size, pairs, repeated}
-use Rattle.pair_log.specs.Report.{max_log, digit, digits, places, decimal, hex, line, too_long, bad_length, counted, pair_line, pair_lines, listing, listing_of, report, written}
-use Rattle.pair_log.specs.Inner.Listed.{pair, listed, pair_size}
-use Rattle.pair_log.proofs.Gathering.{after_one, listed-length}
+use Rattle.pair_log.specs.Report.{max_log, digit, digits, places, line, too_long, bad_length, counted, pair_line, pair_lines, listing, listing_of, report, written}
+use Rattle.pair_log.proofs.Gathering.{listed_size}
+use Rattle.pair_log.specs.declared.pair.Pair.{Pair}
+use Rattle.pair_log.specs.Inner.Listed.{pair, value, listed, pair_size}
 
 -- ---- digits
 
@@ -156,37 +155,37 @@ unfolding pair_lines
 lines-append [] b = refl
 lines-append (v ∷ a) b = ap (λ (t : List ℕ). pair_line (v / 2 ^ 64) (v % 2 ^ 64) ++ t) (lines-append a b) ∙ sym (append_assoc (pair_line (v / 2 ^ 64) (v % 2 ^ 64)) (pair_lines a) (pair_lines b))
 
-listed-snoc : (n : ℕ) (ks cs : List ℕ) → listed (suc n) ks cs ≡ listed n ks cs ++ (pair (get_or ks n 0) (get_or cs n 0) ∷ [])
-unfolding listed
-listed-snoc zero ks cs = refl
-listed-snoc (suc n) ks cs =
-    ap (λ (t : List ℕ). pair (get_or ks 0 0) (get_or cs 0 0) ∷ t) (listed-snoc n (drop 1 ks) (drop 1 cs) ∙ ap (λ (v : ℕ). listed n (drop 1 ks) (drop 1 cs) ++ (v ∷ [])) (ap₂ pair (after_one ks n) (after_one cs n)))
+-- the lines of the first i pairs are written
+abbrev pub Lining : (l : List ℕ) (at : ℕ) (ps : List Pair) (o : List ℕ) (i : ℕ) → Type 0
+Lining l at ps o i = (length o ≡ length l) × (i ≤ length ps) × (o ≡ pasted l at (pair_lines (listed (take i ps))))
 
-abbrev pub Lining : (l : List ℕ) (at n : ℕ) (ks cs o : List ℕ) (i : ℕ) → Type 0
-Lining l at n ks cs o i = (length o ≡ length l) × (i ≤ n) × (o ≡ pasted l at (pair_lines (listed i ks cs)))
+pub lines_start : (l : List ℕ) (at : ℕ) (ps : List Pair) → at ≤ length l → Lining l at ps l 0
+unfolding pair_lines pasted
+lines_start l at ps h = (refl, omega arith, rw add-zero (sym (take-append-drop at l)))
 
-pub lines_start : (l : List ℕ) (at n : ℕ) (ks cs : List ℕ) → at ≤ length l → Lining l at n ks cs l 0
-unfolding pair_lines listed pasted
-lines_start l at n ks cs h = (refl, omega arith, rw add-zero (sym (take-append-drop at l)))
+listed_more : (ps : List Pair) (i : ℕ) (d : Pair) → i < length ps → listed (take (i + 1) ps) ≡ listed (take i ps) ++ (value (get_or ps i d) ∷ [])
+listed_more [] i d h = absurd (omega arith)
+listed_more (p ∷ ps) zero d h = refl
+listed_more (p ∷ ps) (suc i) d h = simp unary_clauses (ap (λ (t : List ℕ). value p ∷ t) (simp unary_clauses at (listed_more ps i d (omega arith))))
 
-pub lines-go-on : (l : List ℕ) (at n : ℕ) (ks cs o r : List ℕ) (i : ℕ) → at + n * pair_size ≤ length l → i < n → Lining l at n ks cs o i
-    → r ≡ pasted o (at + i * pair_size) (pair_lines (pair (get_or ks i 0) (get_or cs i 0) ∷ [])) → Lining l at n ks cs r (i + 1)
-lines-go-on l at n ks cs o r i h k s e =
-    let v = pair (get_or ks i 0) (get_or cs i 0) in
-    let a = pair_lines (listed i ks cs) in
+pub lines-go-on : (l : List ℕ) (at : ℕ) (ps : List Pair) (o r : List ℕ) (i : ℕ) (d : Pair) → d ≡ get_or ps i d → at + length ps * pair_size ≤ length l → i < length ps → Lining l at ps o i
+    → r ≡ pasted o (at + i * pair_size) (pair_lines (value d ∷ [])) → Lining l at ps r (i + 1)
+lines-go-on l at ps o r i d y h k s e =
+    let v = value d in
+    let a = pair_lines (listed (take i ps)) in
     let b = pair_lines (v ∷ []) in
-    let p : length a ≡ i * pair_size = lines-length (listed i ks cs) ∙ rw listed-length in
+    let p : length a ≡ i * pair_size = lines-length (listed (take i ps)) ∙ rw (listed_size ps i s.1) in
     let q : length b ≡ pair_size = lines-length (v ∷ []) in
     let z : at + length a + length b ≤ length l = omega (arith, p, q, h, k) in
     let f : r ≡ pasted l at (a ++ b) = e ∙ ap₂ (λ (t : List ℕ) (m : ℕ). pasted t (at + m) b) s.2 (sym p) ∙ pasted-append l at a b z in
-    let g : r ≡ pasted l at (pair_lines (listed (i + 1) ks cs)) = f ∙ ap (pasted l at) (sym (rw (add-one, listed-snoc i ks cs) (lines-append (listed i ks cs) (v ∷ [])))) in
+    let g : r ≡ pasted l at (pair_lines (listed (take (i + 1) ps))) = f ∙ ap (pasted l at) (sym (ap pair_lines (listed_more ps i d k ∙ ap (λ (u : Pair). listed (take i ps) ++ (value u ∷ [])) (sym y)) ∙ lines-append (listed (take i ps)) (v ∷ []))) in
     let m : length (a ++ b) ≡ length a + length b = length-append a b in
     (ap length f ∙ pasted_length l at (a ++ b) (omega (arith, m, z)), omega arith, g)
 
-pub lines_end : (l : List ℕ) (at n : ℕ) (ks cs o : List ℕ) (i : ℕ) → Lining l at n ks cs o i → n ≤ i → o ≡ pasted l at (pair_lines (listed n ks cs))
-lines_end l at n ks cs o i s h =
-    let e : i ≡ n = omega (arith, s.1) in
-    s.2 ∙ ap (λ (k : ℕ). pasted l at (pair_lines (listed k ks cs))) e
+pub lines_end : (l : List ℕ) (at : ℕ) (ps : List Pair) (o : List ℕ) (i : ℕ) → Lining l at ps o i → length ps ≤ i → o ≡ pasted l at (pair_lines (listed ps))
+lines_end l at ps o i s h =
+    let e : i ≡ length ps = omega (arith, s.1) in
+    s.2 ∙ ap (λ (k : ℕ). pasted l at (pair_lines (listed (take k ps)))) e ∙ ap (λ (t : List Pair). pasted l at (pair_lines (listed t))) (take-length ps)
 
 -- ---- the report
 

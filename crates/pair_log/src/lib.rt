@@ -2,13 +2,17 @@
 // A log of sealings, records of 16 bytes, and the pairs of KID and counter that stand in it twice or more.
 #![tactic(auto)]
 
-ghost use Rattle.std.specs.Prelude.{◌≡◌, [], ◌∷◌, ◌++◌, ◌+◌, ◌*◌, ◌/◌, ◌^◌, ◌≤◌, ◌<◌, eqb, ltb, length, get_or, take};
-ghost use Rattle.octets.specs.Octets.{ascii, both, number, pasted};
-ghost use Rattle.pair_log.specs.Pairs.{record_size, pairs, among, inserted, repeated};
-ghost use Rattle.pair_log.specs.Report.{max_log, digit, digits, places, counted, pair_lines, listing, listing_of, report, written};
-ghost use Rattle.pair_log.specs.Inner.Listed.{pair, listed, below, pair_size, max_listed};
+mod pair;
 
-use answers::{Answer, DONE, ROOM_SHORT, refused};
+ghost use Rattle.std.specs.Prelude.{◌≡◌, [], ◌∷◌, ◌++◌, ◌+◌, ◌*◌, ◌/◌, ◌^◌, ◌≤◌, ◌<◌, length, take};
+ghost use Rattle.octets.specs.Octets.{ascii, number, pasted};
+ghost use Rattle.answers.specs.Refusals.{number_of, written_of};
+ghost use Rattle.pair_log.specs.Pairs.{record_size, pairs, among, inserted, repeated, Rising};
+ghost use Rattle.pair_log.specs.Report.{max_log, digit, digits, places, counted, pair_lines, listing, listing_of, report, written};
+ghost use Rattle.pair_log.specs.Inner.Listed.{value, listed, pair_size, max_listed};
+
+use crate::pair::Pair;
+use answers::Refusal;
 
 // The bytes of a record, a KID and a counter of 8 bytes each, and of the longest log.
 pub const RECORD: usize = 16;
@@ -23,125 +27,58 @@ const MAX_LISTED: usize = 2048;
 
 const PAIR: usize = 34;
 
-// Whether the first pair is below the second.
-fn less(kid: u64, ctr: u64, kid2: u64, ctr2: u64) -> bool
-    ensures { result ≡ ltb (pair kid ctr) (pair kid2 ctr2) }
-{
-    if kid < kid2 {
-        return true;
-    }
-    if kid2 < kid {
-        return false;
-    }
-    ctr < ctr2
-}
-
-// Whether the pairs are equal.
-fn equal(kid: u64, ctr: u64, kid2: u64, ctr2: u64) -> bool
-    ensures { result ≡ eqb (pair kid ctr) (pair kid2 ctr2) }
-{
-    if ctr != ctr2 {
-        return false;
-    }
-    kid == kid2
-}
-
-// Whether the record at the front of a log is that pair.
-fn holds(log: &[u8], kid: u64, ctr: u64) -> bool
+// The pair of the record at the front of a log.
+fn first_pair(log: &[u8]) -> Pair
     requires { record_size ≤ length log.now }
-    ensures { result ≡ eqb (number record_size log.now) (pair kid ctr) }
+    ensures { value result ≡ number record_size log.now }
 {
-    let k = octets::read_be64(log);
-    let c = octets::read_be64(&log[8..]);
-    equal(k, c, kid, ctr)
+    Pair {
+        kid: octets::read_be64(log),
+        ctr: octets::read_be64(&log[8..]),
+    }
 }
 
 // Whether the pair stands among the first n records of a log.
-fn stands(log: &[u8], n: usize, kid: u64, ctr: u64) -> bool
+fn stands(log: &[u8], n: usize, pair: Pair) -> bool
     requires { n * record_size ≤ length log.now }
-    ensures { result ≡ among (pair kid ctr) (pairs n log.now) }
+    ensures { result ≡ among (value pair) (pairs n log.now) }
 {
-    let mut i = 0;
-    while i < n {
-        if holds(&log[RECORD * i..], kid, ctr) {
+    for i in 0..n {
+        if first_pair(&log[RECORD * i..]) == pair {
             return true;
         }
-        i += 1;
     }
     false
 }
 
-// How many of the first n pairs, from the front on, are below the pair.
-fn place(kids: &[u64], ctrs: &[u64], n: usize, kid: u64, ctr: u64) -> usize
-    requires { (n ≤ length kids.now) × (n ≤ length ctrs.now) }
-    ensures { (result ≡ below (pair kid ctr) (listed n kids.now ctrs.now)) × (result ≤ n) }
-{
-    let mut i = 0;
-    while i < n {
-        if !less(kids[i], ctrs[i], kid, ctr) {
-            return i;
-        }
-        i += 1;
-    }
-    i
-}
-
-// Whether the pair at index i of the first n is that pair.
-fn is_at(kids: &[u64], ctrs: &[u64], n: usize, i: usize, kid: u64, ctr: u64) -> bool
-    requires { (n ≤ length kids.now) × (n ≤ length ctrs.now) }
-    ensures { result ≡ both (ltb i n) (eqb (pair (get_or kids.now i 0) (get_or ctrs.now i 0)) (pair kid ctr)) }
-{
-    if n <= i {
-        return false;
-    }
-    equal(kids[i], ctrs[i], kid, ctr)
-}
-
-// Puts x in front: each element moves up by one place, and the last one goes.
-fn push(a: &mut [u64], x: u64)
-    ensures { a.new ≡ take (length a.old) (x ∷ a.old) }
-{
-    let mut last = x;
-    let mut i = 0;
-    while i < a.len() {
-        let next = a[i];
-        a[i] = last;
-        last = next;
-        i += 1;
-    }
-}
-
 // Puts a pair among the first n, which rise, where it does not stand there, and answers how many they are then.
-fn insert(kids: &mut [u64], ctrs: &mut [u64], n: usize, kid: u64, ctr: u64) -> usize
-    requires { (n < length kids.old) × (n < length ctrs.old) }
-    ensures { (listed result kids.new ctrs.new ≡ inserted (pair kid ctr) (listed n kids.old ctrs.old)) × (result ≤ n + 1) }
+fn insert(found: &mut [Pair], n: usize, pair: Pair) -> usize
+    requires len { n < length found.old }
+    requires rising { Rising (listed (take n found.old)) }
+    ensures { (listed (take result found.new) ≡ inserted (value pair) (listed (take n found.old))) × (result ≤ n + 1) }
 {
-    let at = place(kids, ctrs, n, kid, ctr);
-    if is_at(kids, ctrs, n, at, kid, ctr) {
+    let Err(at) = found[..n].binary_search(&pair) else {
         return n;
-    }
-    push(&mut kids[at..n + 1], kid);
-    push(&mut ctrs[at..n + 1], ctr);
+    };
+    found[at..n + 1].rotate_right(1);
+    found[at] = pair;
     n + 1
 }
 
 // Gathers the pairs that stand twice or more among the first n records of a log, and answers how many they are.
-fn gather(log: &[u8], n: usize, kids: &mut [u64], ctrs: &mut [u64]) -> usize
-    requires { (n * record_size ≤ length log.now) × (n ≤ length kids.old + length kids.old) × (length kids.old ≡ length ctrs.old) }
-    ensures { (listed result kids.new ctrs.new ≡ repeated (pairs n log.now)) × (result ≤ length kids.old) }
+fn gather(log: &[u8], n: usize, found: &mut [Pair]) -> usize
+    requires { (n * record_size ≤ length log.now) × (n ≤ length found.old + length found.old) }
+    ensures { (listed (take result found.new) ≡ repeated (pairs n log.now)) × (result ≤ length found.old) }
 {
-    let mut found = 0;
-    let mut left = n;
-    while 0 < left {
-        left -= 1;
-        let record = &log[RECORD * left..];
-        let kid = octets::read_be64(record);
-        let ctr = octets::read_be64(&record[8..]);
-        if stands(&record[RECORD..], n - left - 1, kid, ctr) {
-            found = insert(kids, ctrs, found, kid, ctr);
+    let mut count = 0;
+    for i in (0..n).rev() {
+        let record = &log[RECORD * i..];
+        let pair = first_pair(record);
+        if stands(&record[RECORD..], n - i - 1, pair) {
+            count = insert(found, count, pair);
         }
     }
-    found
+    count
 }
 
 fn digit(d: u64) -> u8
@@ -160,11 +97,9 @@ fn write_digits(out: &mut [u8], base: u64, x: u64)
     ensures { out.new ≡ digits base (length out.old) x }
 {
     let mut rest = x;
-    let mut i = out.len();
-    while 0 < i {
-        i -= 1;
+    for i in (0..out.len()).rev() {
         out[i] = digit(rest % base);
-        rest = rest / base;
+        rest /= base;
     }
 }
 
@@ -206,23 +141,21 @@ fn write_count(out: &mut [u8], at: usize, label: &[u8], x: u64) -> usize
 }
 
 // Writes the line of a pair over out from index at on.
-fn write_pair(out: &mut [u8], at: usize, kid: u64, ctr: u64)
+fn write_pair(out: &mut [u8], at: usize, pair: Pair)
     requires { at + pair_size ≤ length out.old }
-    ensures { out.new ≡ pasted out.old at (pair_lines (pair kid ctr ∷ [])) }
+    ensures { out.new ≡ pasted out.old at (pair_lines (value pair ∷ [])) }
 {
-    write_number(out, at, 16, 16, kid, b' ');
-    write_number(out, at + 17, 16, 16, ctr, b'\n');
+    write_number(out, at, 16, 16, pair.kid, b' ');
+    write_number(out, at + 17, 16, 16, pair.ctr, b'\n');
 }
 
-// Writes the lines of the first n pairs over out from index at on.
-fn write_pairs(out: &mut [u8], at: usize, kids: &[u64], ctrs: &[u64], n: usize)
-    requires { (at + n * pair_size ≤ length out.old) × (n ≤ length kids.now) × (n ≤ length ctrs.now) }
-    ensures { out.new ≡ pasted out.old at (pair_lines (listed n kids.now ctrs.now)) }
+// Writes the lines of pairs over out from index at on.
+fn write_pairs(out: &mut [u8], at: usize, pairs: &[Pair])
+    requires { at + length pairs.now * pair_size ≤ length out.old }
+    ensures { out.new ≡ pasted out.old at (pair_lines (listed pairs.now)) }
 {
-    let mut i = 0;
-    while i < n {
-        write_pair(out, at + i * PAIR, kids[i], ctrs[i]);
-        i += 1;
+    for (i, pair) in pairs.iter().enumerate() {
+        write_pair(out, at + i * PAIR, *pair);
     }
 }
 
@@ -234,57 +167,50 @@ fn listing_size(n: u64, m: u64) -> usize
     9 + places(n) + (10 + places(m) + m as usize * PAIR)
 }
 
-// Writes the report of n records, of which the first m pairs are listed.
-fn write_listing(n: usize, kids: &[u64], ctrs: &[u64], m: usize, room: &mut [u8]) -> Answer
-    requires { (m ≤ max_listed) × (m ≤ length kids.now) × (m ≤ length ctrs.now) }
-    ensures number_value { (result.number ≡ (written (listing n (listed m kids.now ctrs.now)) room.old).number) × (result.length ≡ (written (listing n (listed m kids.now ctrs.now)) room.old).written) }
-    ensures room_after { room.new ≡ (written (listing n (listed m kids.now ctrs.now)) room.old).room }
+// Writes the report of n records, of which those pairs are listed.
+fn write_listing(n: usize, found: &[Pair], room: &mut [u8]) -> Result<usize, Refusal>
+    requires { length found.now ≤ max_listed }
+    ensures number_value { (number_of result ≡ (written (listing n (listed found.now)) room.old).number) × (written_of result ≡ (written (listing n (listed found.now)) room.old).written) }
+    ensures room_after { room.new ≡ (written (listing n (listed found.now)) room.old).room }
 {
-    let size = listing_size(n as u64, m as u64);
+    let size = listing_size(n as u64, found.len() as u64);
     if room.len() < size {
-        return refused(ROOM_SHORT);
+        return Err(Refusal::RoomShort);
     }
     let second = write_count(room, 0, b"records ", n as u64);
-    let third = write_count(room, second, b"repeated ", m as u64);
-    write_pairs(room, third, kids, ctrs, m);
-    Answer {
-        number: DONE,
-        length: size,
-    }
+    let third = write_count(room, second, b"repeated ", found.len() as u64);
+    write_pairs(room, third, found);
+    Ok(size)
 }
 
 // Writes the report of a log of whole records.
-fn list(log: &[u8], room: &mut [u8]) -> Answer
+fn list(log: &[u8], room: &mut [u8]) -> Result<usize, Refusal>
     requires { length log.now ≤ max_log }
-    ensures number_value { (result.number ≡ (written (listing_of log.now) room.old).number) × (result.length ≡ (written (listing_of log.now) room.old).written) }
+    ensures number_value { (number_of result ≡ (written (listing_of log.now) room.old).number) × (written_of result ≡ (written (listing_of log.now) room.old).written) }
     ensures room_after { room.new ≡ (written (listing_of log.now) room.old).room }
 {
-    let mut kids = [0u64; MAX_LISTED];
-    let mut ctrs = [0u64; MAX_LISTED];
+    let mut found = [Pair { kid: 0, ctr: 0 }; MAX_LISTED];
     let n = log.len() / RECORD;
-    let m = gather(log, n, &mut kids, &mut ctrs);
-    write_listing(n, &kids, &ctrs, m, room)
+    let m = gather(log, n, &mut found);
+    write_listing(n, &found[..m], room)
 }
 
 // Writes a text to the front of the room.
-fn write_text(text: &[u8], room: &mut [u8]) -> Answer
-    ensures number_value { (result.number ≡ (written text.now room.old).number) × (result.length ≡ (written text.now room.old).written) }
+fn write_text(text: &[u8], room: &mut [u8]) -> Result<usize, Refusal>
+    ensures number_value { (number_of result ≡ (written text.now room.old).number) × (written_of result ≡ (written text.now room.old).written) }
     ensures room_after { room.new ≡ (written text.now room.old).room }
 {
     if room.len() < text.len() {
-        return refused(ROOM_SHORT);
+        return Err(Refusal::RoomShort);
     }
     octets::copy(room, text);
-    Answer {
-        number: DONE,
-        length: text.len(),
-    }
+    Ok(text.len())
 }
 
 // Writes the report of a log to the front of the room: the pairs that stand in it twice or more, or that it is too long
 // or not whole records. A room shorter than the report is refused with 12.
-pub fn report(log: &[u8], room: &mut [u8]) -> Answer
-    ensures number_value { (result.number ≡ (written (report log.now) room.old).number) × (result.length ≡ (written (report log.now) room.old).written) }
+pub fn report(log: &[u8], room: &mut [u8]) -> Result<usize, Refusal>
+    ensures number_value { (number_of result ≡ (written (report log.now) room.old).number) × (written_of result ≡ (written (report log.now) room.old).written) }
     ensures room_after { room.new ≡ (written (report log.now) room.old).room }
 {
     if MAX_LOG < log.len() {

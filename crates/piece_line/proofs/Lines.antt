@@ -1,6 +1,7 @@
 -- SPDX-License-Identifier: MIT
 -- A line of calls from its beginning on: however the ciphertext is cut, the state is that after all of it, the ciphertext is
 -- that of the whole plaintext, and the tag is that of the frame. Assumes nothing.
+use Rattle.std.specs.Prelude.{Some}
 use mathlib.Core.Path.{◌≡◌, refl, sym, ◌∙◌, ap, ap₂}
 use mathlib.Core.List.{List, ◌++◌, append_assoc}
 use Prim.Native.Nat.{ℕ, ◌+◌, ◌*◌, ◌/◌, ◌%◌, ◌-◌, ◌^◌, ◌<◌, ◌≤◌}
@@ -27,7 +28,6 @@ use Rattle.gcm.specs.Gcm as Galois
 use Rattle.suites.specs.declared.sizes.Suite.{Suite}
 use Rattle.suites.specs.declared.sizes.Mode.{Mode}
 use Rattle.suites.specs.declared.sizes.Mode.TheVariants.{CtrHmac, Gcm}
-use Rattle.suites.specs.declared.sizes.Found.TheVariants.{Known}
 use Rattle.suites.specs.Suites.{mode_of, Nk, Nt, suite_of}
 use Rattle.aead.specs.Aead as Aead
 use Rattle.aead.specs.Aead.{cipher_key, auth_key, first_count, ciphertext, ctr_tag}
@@ -236,7 +236,7 @@ module _ (kind : ℕ) (suite : Suite) (n : ℕ) (nonce key aad : List ℕ) (g : 
     unfolding front
     kind-is = ap (λ (l : List ℕ). get_or l 0 0) flat
 
-    suite-is : suite_in S ≡ Known suite
+    suite-is : suite_in S ≡ Some suite
     unfolding front
     suite-is = ap (λ (l : List ℕ). suite_of (get_or l 1 0)) flat ∙ number-known suite
 
@@ -246,7 +246,7 @@ module _ (kind : ℕ) (suite : Suite) (n : ℕ) (nonce key aad : List ℕ) (g : 
         ∙ rw (P-length, length-append (bytes 4 (length c) ++ H) rest, length-append (bytes 4 (length c)) H, T-length, H-length) (omega arith)
 
     -- The state is a possible one of its kind and suite.
-    pub line-is : length c ≤ n → line_of kind S ≡ Known suite
+    pub line-is : length c ≤ n → line_of kind S ≡ Some suite
     unfolding line_of fits counts_fit
     line-is h =
         rw (

@@ -1,5 +1,6 @@
 -- SPDX-License-Identifier: MIT
 -- What the code of a line comes to, over plain variables. Assumes nothing.
+use Rattle.std.specs.Prelude.{Option, Some, None}
 use mathlib.Core.Path.{◌≡◌, refl, sym, ◌∙◌, ap, ap₂, subst}
 use mathlib.Core.Bool.{Bool, true, false, not}
 use mathlib.Core.List.{List, [], ◌∷◌, ◌++◌, append-nil, append_assoc}
@@ -27,8 +28,6 @@ use Rattle.gcm_batch.specs.Inner.Front.{Front}
 use Rattle.suites.specs.declared.sizes.Suite.{Suite}
 use Rattle.suites.specs.declared.sizes.Mode.{Mode}
 use Rattle.suites.specs.declared.sizes.Mode.TheVariants.{CtrHmac, Gcm}
-use Rattle.suites.specs.declared.sizes.Found.{Found}
-use Rattle.suites.specs.declared.sizes.Found.TheVariants.{Known, Unknown}
 use Rattle.suites.specs.Suites.{Nk, Nt, mode_of, suite_of}
 use Rattle.aead.specs.Aead.{cipher_key, auth_key, first_count}
 use Rattle.suites.proofs.Laws.{Nk-most, Nt-most, ctr-sizes}
@@ -62,21 +61,21 @@ module _ (s : List ℕ) where
   unfolding counts_fit
   counts-last r h k l e = rw (le-leb 1 (aad_in s) h, le-leb (aad_in s) max_aad k, le-leb (announced_in s) max_plaintext l) e
 
-  pub line-short : (kind : ℕ) → length s < 168 → Unknown ≡ line_of kind s
+  pub line-short : (kind : ℕ) → length s < 168 → None ≡ line_of kind s
   unfolding line_of fits
   line-short kind h = rw (lt-leb 168 (length s) h)
 
-  pub line-kind : (kind : ℕ) → 168 ≤ length s → (kind_in s ≡ kind → ⊥) → Unknown ≡ line_of kind s
+  pub line-kind : (kind : ℕ) → 168 ≤ length s → (kind_in s ≡ kind → ⊥) → None ≡ line_of kind s
   unfolding line_of fits
   line-kind kind h d = rw (le-leb 168 (length s) h, ne_eqb (kind_in s) kind d)
 
-  pub line-counts : (kind : ℕ) (r : Bool) → 168 ≤ length s → kind_in s ≡ kind → r ≡ counts_fit s → not r ≡ true → Unknown ≡ line_of kind s
+  pub line-counts : (kind : ℕ) (r : Bool) → 168 ≤ length s → kind_in s ≡ kind → r ≡ counts_fit s → not r ≡ true → None ≡ line_of kind s
   unfolding line_of fits
   line-counts kind r h d e n =
       let f : counts_fit s ≡ false = sym e ∙ not-true r n in
       rw (le-leb 168 (length s) h, eq-eqb (kind_in s) kind d, f)
 
-  pub line-found : (kind n : ℕ) (r : Bool) (f : Found) → 168 ≤ length s → kind_in s ≡ kind → r ≡ counts_fit s → not r ≡ false → n ≡ get_or s 1 0
+  pub line-found : (kind n : ℕ) (r : Bool) (f : Option Suite) → 168 ≤ length s → kind_in s ≡ kind → r ≡ counts_fit s → not r ≡ false → n ≡ get_or s 1 0
       → f ≡ suite_of n → f ≡ line_of kind s
   unfolding line_of fits
   line-found kind n r f h d e m w g =
@@ -97,14 +96,14 @@ both_right : (a b : Bool) → both a b ≡ true → b ≡ true
 both_right true b e = e
 both_right false b e = absurd (mathlib.Core.Bool.false≢true e)
 
-pub known-possible : (kind : ℕ) (s : List ℕ) (suite : Suite) (f : Found) → f ≡ line_of kind s → f ≡ Known suite → Possible s
+pub known-possible : (kind : ℕ) (s : List ℕ) (suite : Suite) (f : Option Suite) → f ≡ line_of kind s → f ≡ Some suite → Possible s
 unfolding line_of fits counts_fit
 known-possible kind s suite f e k = by (fits kind s) refl (sym e ∙ k)
   where
-    by : (b : Bool) → fits kind s ≡ b → pick b (suite_in s) Unknown ≡ Known suite → Possible s
+    by : (b : Bool) → fits kind s ≡ b → pick b (suite_in s) None ≡ Some suite → Possible s
     by false p q = absurd (unknown-not q)
       where
-        unknown-not : Unknown ≡ Known suite → ⊥
+        unknown-not : None ≡ Some suite → ⊥
         unknown-not z = let w : ◌≡◌ {A = ℕ} 0 1 = cc in omega arith
     by true p q =
         let a = leb state_size (length s) in

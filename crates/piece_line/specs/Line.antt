@@ -20,7 +20,7 @@ use Rattle.suites.specs.Suites.{number_of, mode_of, Nt}
 use Rattle.aead.specs.Aead.{cipher_key, auth_key, first_count}
 use Rattle.piece_stream.specs.CounterFrom.{ctr_from}
 use Rattle.piece_hash.specs.Held.{kept, fed_hash, digest_of, kept_block, absorb_whole, left_over, fed_blocks, blocks_of}
-use Rattle.piece_line.specs.State.{at_taken, key_space, aad_in, announced_in, taken_in, nonce_in, key_in, hash_in}
+use Rattle.piece_line.specs.State.{at_taken, key_space, aad_in, taken_in, nonce_in, key_in, hash_in}
 
 -- ---- the beginning
 

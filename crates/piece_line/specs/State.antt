@@ -1,14 +1,14 @@
 -- SPDX-License-Identifier: MIT
 -- The running state of a frame in pieces, 168 bytes that the caller lends. What changes stands last.
 -- Assumes nothing.
-use Rattle.std.specs.Prelude.{Bool, List, ℕ, ◌+◌, leb, eqb, length, get_or, take, drop}
+use Rattle.std.specs.Prelude.{Option, None, Bool, List, ℕ, ◌+◌, leb, eqb, length, get_or, take, drop}
 use Rattle.octets.specs.Octets.{number, pick, both}
 use Rattle.header.specs.Header.{max_header}
 use Rattle.answers.specs.Limits.{max_plaintext, max_metadata}
 use Rattle.suites.specs.declared.sizes.Suite.{Suite}
-use Rattle.suites.specs.declared.sizes.Found.{Found}
-use Rattle.suites.specs.declared.sizes.Found.TheVariants.{Unknown}
 use Rattle.suites.specs.Suites.{Nk, Nn, suite_of}
+use Rattle.piece_line.specs.declared.state.Kind.{Kind}
+use Rattle.piece_line.specs.declared.state.Kind.TheVariants.{Sealing, Checking}
 use Rattle.piece_hash.specs.Held.{held_size}
 
 -- Where each field starts. The kind of line stands at 0, the suite's number at 1.
@@ -44,12 +44,16 @@ sealing = 1
 abbrev pub checking : ℕ
 checking = 2
 
+abbrev pub kind_byte : Kind → ℕ
+kind_byte Sealing = sealing
+kind_byte Checking = checking
+
 -- ---- the fields
 
 abbrev pub kind_in : List ℕ → ℕ
 kind_in s = get_or s 0 0
 
-abbrev pub suite_in : List ℕ → Found
+abbrev pub suite_in : List ℕ → Option Suite
 suite_in s = suite_of (get_or s 1 0)
 
 -- The bytes of associated data, those announced, and those taken so far.
@@ -87,5 +91,5 @@ unfoldable pub fits : (kind : ℕ) (s : List ℕ) → Bool
 fits kind s = both (leb state_size (length s)) (both (eqb (kind_in s) kind) (counts_fit s))
 
 -- The suite of a line of that kind, where the state is possible: long enough, of that kind, of a suite, its counts fitting.
-unfoldable pub line_of : (kind : ℕ) (s : List ℕ) → Found
-line_of kind s = pick (fits kind s) (suite_in s) Unknown
+unfoldable pub line_of : (kind : ℕ) (s : List ℕ) → Option Suite
+line_of kind s = pick (fits kind s) (suite_in s) None

@@ -189,7 +189,9 @@ pub fn tag_of(suite: Suite, state: &[u8]) -> [u8; TAG]
     match suite.mode() {
         Mode::CtrHmac => hmac_tag(suite, state),
         Mode::Gcm => {
-            let ctx = context_of(state, suite);
+            let end = key_end(suite);
+            let mut ctx = aes_keys::blank();
+            ciphers::context(&mut ctx, suite, &state[KEY..end]);
             gcm_tag(suite, &ctx, state)
         }
     }

@@ -2,19 +2,33 @@
 // The running state: where its fields stand, and which states are possible.
 ghost use Rattle.std.specs.Prelude.{◌≡◌, ◌+◌, ◌≤◌, ◌<◌, ◌^◌, length};
 ghost use Rattle.suites.specs.Suites.{Nk};
-ghost use Rattle.piece_line.specs.State.{at_key, state_size, aad_in, announced_in, taken_in, counts_fit, line_of};
+ghost use Rattle.piece_line.specs.State.{at_key, state_size, aad_in, announced_in, taken_in, counts_fit, kind_byte, line_of};
 
 use answers::{MAX_METADATA, MAX_PLAINTEXT};
 use header::MAX_HEADER;
-use suites::{Found, Suite};
+use suites::Suite;
 
 // The bytes of a state.
 pub const STATE_SIZE: usize = 168;
 
 // The kinds of line.
-pub const SEALING: u8 = 1;
+#[derive(Clone, Copy, PartialEq, Eq)]
+pub enum Kind {
+    Sealing,
+    Checking,
+}
 
-pub const CHECKING: u8 = 2;
+impl Kind {
+    // The byte by which a state names it.
+    pub fn byte(self) -> u8
+        ensures { result ≡ kind_byte self }
+    {
+        match self {
+            Kind::Sealing => 1,
+            Kind::Checking => 2,
+        }
+    }
+}
 
 // Where each field starts. The kind of line stands at 0.
 pub const SUITE: usize = 1;
@@ -91,17 +105,17 @@ fn counts_fit(state: &[u8]) -> bool
 }
 
 // The suite of a line of a kind, where the state is possible.
-pub fn line_of(state: &[u8], kind: u8) -> Found
-    ensures { result ≡ line_of kind state.now }
+pub fn line_of(state: &[u8], kind: Kind) -> Option<Suite>
+    ensures { result ≡ line_of (kind_byte kind) state.now }
 {
     if state.len() < STATE_SIZE {
-        return Found::Unknown;
+        return None;
     }
-    if state[0] != kind {
-        return Found::Unknown;
+    if state[0] != kind.byte() {
+        return None;
     }
     if !counts_fit(state) {
-        return Found::Unknown;
+        return None;
     }
     suites::sizes::find(wide(state[SUITE]))
 }

@@ -1,5 +1,6 @@
 -- SPDX-License-Identifier: MIT
 -- The steps of the calls on a running state, over plain variables. Assumes nothing.
+use Rattle.std.specs.Prelude.{Option, Some, None}
 use mathlib.Core.Path.{◌≡◌, refl, sym, ◌∙◌, ap, ap₂}
 use mathlib.Core.Bool.{Bool, true, false, not}
 use mathlib.Core.List.{List, []}
@@ -15,8 +16,6 @@ use Rattle.octets.specs.Octets.{pasted, same}
 use Rattle.answers.specs.Answers.{first}
 use Rattle.answers.specs.Limits.{max_plaintext}
 use Rattle.suites.specs.declared.sizes.Suite.{Suite}
-use Rattle.suites.specs.declared.sizes.Found.{Found}
-use Rattle.suites.specs.declared.sizes.Found.TheVariants.{Known, Unknown}
 use Rattle.suites.specs.Suites.{Nt}
 use Rattle.suites.proofs.Laws.{Nt-most}
 use Rattle.piece_line.specs.State.{sealing, checking, announced_in, taken_in, line_of}
@@ -47,7 +46,7 @@ first_part t g n m e f = let d : n - 0 ≡ m = omega arith in rw d f
 pub whole-tag : (tag t g : List ℕ) (n m : ℕ) (r : Bool) → n ≡ length tag → n ≡ m → take m t ≡ g → r ≡ same (take (n - 0) tag) (take (n - 0) t) → r ≡ same tag g
 whole-tag tag t g n m r l e f q = q ∙ ap₂ same (take_all (n - 0) tag (omega arith)) (first_part t g n m e f)
 
-pub tag_fits : (f : Found) (suite : Suite) (n : ℕ) → f ≡ Known suite → n ≡ Nt suite → n ≤ 16
+pub tag_fits : (f : Option Suite) (suite : Suite) (n : ℕ) → f ≡ Some suite → n ≡ Nt suite → n ≤ 16
 tag_fits f suite n k e = omega (arith, Nt-most suite)
 
 -- ---- the calls
@@ -63,24 +62,24 @@ leaves o p e = ((sym (ap (λ (x : Result). x.number) e), sym (ap (λ (x : Result
 pub within : (s : List ℕ) (n : ℕ) (r : Bool) → Possible s → r ≡ past s n → r ≡ false → taken_in s + n ≤ max_plaintext
 within s n r p e f = omega (arith, p.most, ltb-false (announced_in s) (taken_in s + n) (sym e ∙ f))
 
-module _ (s p room : List ℕ) (f : Found) (e : f ≡ line_of sealing s) where
-  piece-in : (g : Found) → f ≡ g → seal_piece s p room ≡ seal_piece_in g s p room
+module _ (s p room : List ℕ) (f : Option Suite) (e : f ≡ line_of sealing s) where
+  piece-in : (g : Option Suite) → f ≡ g → seal_piece s p room ≡ seal_piece_in g s p room
   unfolding seal_piece
-  piece-in g k = ap (λ (x : Found). seal_piece_in x s p room) (sym e ∙ k)
+  piece-in g k = ap (λ (x : Option Suite). seal_piece_in x s p room) (sym e ∙ k)
 
-  pub piece-unknown : f ≡ Unknown → Leaves (seal_piece s p room) 16 0 s room
-  piece-unknown k = leaves _ (refusal 16 s room) (piece-in Unknown k)
+  pub piece-unknown : f ≡ None → Leaves (seal_piece s p room) 16 0 s room
+  piece-unknown k = leaves _ (refusal 16 s room) (piece-in None k)
 
-  module _ (suite : Suite) (k : f ≡ Known suite) (r : Bool) (q : r ≡ past s (length p)) where
+  module _ (suite : Suite) (k : f ≡ Some suite) (r : Bool) (q : r ≡ past s (length p)) where
     pub piece-past : r ≡ true → Leaves (seal_piece s p room) 16 0 s room
     unfolding first wanting concluded
-    piece-past t = let u : past s (length p) ≡ true = sym q ∙ t in leaves _ (refusal 16 s room) (piece-in (Known suite) k ∙ rw u)
+    piece-past t = let u : past s (length p) ≡ true = sym q ∙ t in leaves _ (refusal 16 s room) (piece-in (Some suite) k ∙ rw u)
 
     pub piece-short : r ≡ false → length room < length p → Leaves (seal_piece s p room) 12 0 s room
     unfolding first wanting concluded
     piece-short t h =
         let u : past s (length p) ≡ false = sym q ∙ t in
-        leaves _ (refusal 12 s room) (piece-in (Known suite) k ∙ rw (u, lt-ltb (length room) (length p) h))
+        leaves _ (refusal 12 s room) (piece-in (Some suite) k ∙ rw (u, lt-ltb (length room) (length p) h))
 
     pub piece-taken : r ≡ false → length p ≤ length room
         → Leaves (seal_piece s p room) 0 (length p) (after suite s (cipher_piece suite s p)) (pasted room 0 (cipher_piece suite s p))
@@ -88,20 +87,20 @@ module _ (s p room : List ℕ) (f : Found) (e : f ≡ line_of sealing s) where
     piece-taken t h =
         let u : past s (length p) ≡ false = sym q ∙ t in
         leaves _ (record { number = 0; written = length p; state = after suite s (cipher_piece suite s p); room = pasted room 0 (cipher_piece suite s p) })
-        (piece-in (Known suite) k ∙ rw (u, le-ltb (length room) (length p) h))
+        (piece-in (Some suite) k ∙ rw (u, le-ltb (length room) (length p) h))
 
-module _ (s room : List ℕ) (f : Found) (e : f ≡ line_of sealing s) where
-  end-in : (g : Found) → f ≡ g → seal_end s room ≡ seal_end_in g s room
+module _ (s room : List ℕ) (f : Option Suite) (e : f ≡ line_of sealing s) where
+  end-in : (g : Option Suite) → f ≡ g → seal_end s room ≡ seal_end_in g s room
   unfolding seal_end
-  end-in g k = ap (λ (x : Found). seal_end_in x s room) (sym e ∙ k)
+  end-in g k = ap (λ (x : Option Suite). seal_end_in x s room) (sym e ∙ k)
 
-  pub end-unknown : f ≡ Unknown → Leaves (seal_end s room) 16 0 s room
-  end-unknown k = leaves _ (refusal 16 s room) (end-in Unknown k)
+  pub end-unknown : f ≡ None → Leaves (seal_end s room) 16 0 s room
+  end-unknown k = leaves _ (refusal 16 s room) (end-in None k)
 
-  module _ (suite : Suite) (k : f ≡ Known suite) (r : Bool) (q : r ≡ early s) where
+  module _ (suite : Suite) (k : f ≡ Some suite) (r : Bool) (q : r ≡ early s) where
     pub end-early : r ≡ true → Leaves (seal_end s room) 16 0 s room
     unfolding first wanting concluded
-    end-early t = let u : early s ≡ true = sym q ∙ t in leaves _ (refusal 16 s room) (end-in (Known suite) k ∙ rw u)
+    end-early t = let u : early s ≡ true = sym q ∙ t in leaves _ (refusal 16 s room) (end-in (Some suite) k ∙ rw u)
 
     module _ (n : ℕ) (m : n ≡ Nt suite) (t : r ≡ false) where
       pub end_short : length room < n → Leaves (seal_end s room) 12 0 s room
@@ -109,54 +108,54 @@ module _ (s room : List ℕ) (f : Found) (e : f ≡ line_of sealing s) where
       end_short h =
           let u : early s ≡ false = sym q ∙ t in
           let w : length room < Nt suite = omega arith in
-          leaves _ (refusal 12 s room) (end-in (Known suite) k ∙ rw (u, lt-ltb (length room) (Nt suite) w))
+          leaves _ (refusal 12 s room) (end-in (Some suite) k ∙ rw (u, lt-ltb (length room) (Nt suite) w))
 
       pub end-written : (o x : List ℕ) → n ≤ length room → x ≡ tag_in suite s → o ≡ pasted room 0 x → Leaves (seal_end s room) 0 n s o
       unfolding first wanting concluded
       end-written o x h g z =
           let u : early s ≡ false = sym q ∙ t in
           let w : Nt suite ≤ length room = omega arith in
-          let l = leaves _ (record { number = 0; written = Nt suite; state = s; room = pasted room 0 (tag_in suite s) }) (end-in (Known suite) k ∙ rw (u, le-ltb (length room) (Nt suite) w)) in
+          let l = leaves _ (record { number = 0; written = Nt suite; state = s; room = pasted room 0 (tag_in suite s) }) (end-in (Some suite) k ∙ rw (u, le-ltb (length room) (Nt suite) w)) in
           ((l.0.0, m ∙ l.0.1), (l.1.0, z ∙ ap (pasted room 0) g ∙ l.1.1))
 
-module _ (s p : List ℕ) (f : Found) (e : f ≡ line_of checking s) where
-  check-in : (g : Found) → f ≡ g → check_piece s p ≡ check_piece_in g s p
+module _ (s p : List ℕ) (f : Option Suite) (e : f ≡ line_of checking s) where
+  check-in : (g : Option Suite) → f ≡ g → check_piece s p ≡ check_piece_in g s p
   unfolding check_piece
-  check-in g k = ap (λ (x : Found). check_piece_in x s p) (sym e ∙ k)
+  check-in g k = ap (λ (x : Option Suite). check_piece_in x s p) (sym e ∙ k)
 
-  pub check-unknown : f ≡ Unknown → Leaves (check_piece s p) 16 0 s []
-  check-unknown k = leaves _ (refusal 16 s []) (check-in Unknown k)
+  pub check-unknown : f ≡ None → Leaves (check_piece s p) 16 0 s []
+  check-unknown k = leaves _ (refusal 16 s []) (check-in None k)
 
-  module _ (suite : Suite) (k : f ≡ Known suite) (r : Bool) (q : r ≡ past s (length p)) where
+  module _ (suite : Suite) (k : f ≡ Some suite) (r : Bool) (q : r ≡ past s (length p)) where
     pub check-past : r ≡ true → Leaves (check_piece s p) 16 0 s []
     unfolding first concluded
-    check-past t = let u : past s (length p) ≡ true = sym q ∙ t in leaves _ (refusal 16 s []) (check-in (Known suite) k ∙ rw u)
+    check-past t = let u : past s (length p) ≡ true = sym q ∙ t in leaves _ (refusal 16 s []) (check-in (Some suite) k ∙ rw u)
 
     pub check_done : r ≡ false → Leaves (check_piece s p) 0 0 (after suite s p) []
     unfolding first concluded
     check_done t =
         let u : past s (length p) ≡ false = sym q ∙ t in
-        leaves _ (record { number = 0; written = 0; state = after suite s p; room = [] }) (check-in (Known suite) k ∙ rw u)
+        leaves _ (record { number = 0; written = 0; state = after suite s p; room = [] }) (check-in (Some suite) k ∙ rw u)
 
-module _ (s t : List ℕ) (f : Found) (e : f ≡ line_of checking s) where
-  tag_in_lem : (g : Found) → f ≡ g → check_end s t ≡ check_end_in g s t
+module _ (s t : List ℕ) (f : Option Suite) (e : f ≡ line_of checking s) where
+  tag_in_lem : (g : Option Suite) → f ≡ g → check_end s t ≡ check_end_in g s t
   unfolding check_end
-  tag_in_lem g k = ap (λ (x : Found). check_end_in x s t) (sym e ∙ k)
+  tag_in_lem g k = ap (λ (x : Option Suite). check_end_in x s t) (sym e ∙ k)
 
-  pub tag-unknown : f ≡ Unknown → 16 ≡ check_end s t
-  tag-unknown k = sym (tag_in_lem Unknown k)
+  pub tag-unknown : f ≡ None → 16 ≡ check_end s t
+  tag-unknown k = sym (tag_in_lem None k)
 
-  module _ (suite : Suite) (k : f ≡ Known suite) (r : Bool) (q : r ≡ early s) where
+  module _ (suite : Suite) (k : f ≡ Some suite) (r : Bool) (q : r ≡ early s) where
     pub tag-early : r ≡ true → 16 ≡ check_end s t
     unfolding first
-    tag-early b = let u : early s ≡ true = sym q ∙ b in sym (tag_in_lem (Known suite) k ∙ rw u)
+    tag-early b = let u : early s ≡ true = sym q ∙ b in sym (tag_in_lem (Some suite) k ∙ rw u)
 
     module _ (n : ℕ) (m : n ≡ Nt suite) (b : r ≡ false) where
       pub tag-length : (length t ≡ n → ⊥) → 11 ≡ check_end s t
       unfolding first
       tag-length d =
           let u : early s ≡ false = sym q ∙ b in
-          sym (tag_in_lem (Known suite) k ∙ rw (u, ne_eqb (length t) (Nt suite) (λ z. d (z ∙ sym m))))
+          sym (tag_in_lem (Some suite) k ∙ rw (u, ne_eqb (length t) (Nt suite) (λ z. d (z ∙ sym m))))
 
       module _ (l : length t ≡ n) (x : List ℕ) (y : Bool) (g : x ≡ tag_in suite s) (h : y ≡ same t x) where
         pub tag-differs : not y ≡ true → 13 ≡ check_end s t
@@ -164,11 +163,11 @@ module _ (s t : List ℕ) (f : Found) (e : f ≡ line_of checking s) where
         tag-differs z =
             let u : early s ≡ false = sym q ∙ b in
             let w : same t (tag_in suite s) ≡ false = ap (same t) (sym g) ∙ sym h ∙ not-true y z in
-            sym (tag_in_lem (Known suite) k ∙ rw (u, eq-eqb (length t) (Nt suite) (l ∙ m), w))
+            sym (tag_in_lem (Some suite) k ∙ rw (u, eq-eqb (length t) (Nt suite) (l ∙ m), w))
 
         pub tag_same : not y ≡ false → 0 ≡ check_end s t
         unfolding first
         tag_same z =
             let u : early s ≡ false = sym q ∙ b in
             let w : same t (tag_in suite s) ≡ true = ap (same t) (sym g) ∙ sym h ∙ not-false y z in
-            sym (tag_in_lem (Known suite) k ∙ rw (u, eq-eqb (length t) (Nt suite) (l ∙ m), w))
+            sym (tag_in_lem (Some suite) k ∙ rw (u, eq-eqb (length t) (Nt suite) (l ∙ m), w))

@@ -2,13 +2,11 @@
 -- The calls on a running state: number, length, state and room afterwards, for every input. The causes of refusal stand in
 -- the order in which they are tried.
 -- Assumes nothing.
-use Rattle.std.specs.Prelude.{Bool, not, List, [], ◌∷◌, ◌++◌, ℕ, zero, suc, ◌+◌, ltb, eqb, length, drop}
-use Rattle.octets.specs.Octets.{pick, same, pasted}
+use Rattle.std.specs.Prelude.{Option, Some, None, Bool, not, List, [], ◌∷◌, ℕ, zero, suc, ◌+◌, ltb, eqb, length}
+use Rattle.octets.specs.Octets.{same, pasted}
 use Rattle.header.specs.Answers.{room_short}
 use Rattle.answers.specs.Answers.{frame_short, tag_differs, state_mismatch, Cause, ◌if◌, first}
 use Rattle.suites.specs.declared.sizes.Suite.{Suite}
-use Rattle.suites.specs.declared.sizes.Found.{Found}
-use Rattle.suites.specs.declared.sizes.Found.TheVariants.{Known, Unknown}
 use Rattle.suites.specs.Suites.{Nt}
 use Rattle.piece_line.specs.State.{sealing, checking, announced_in, taken_in, line_of}
 use Rattle.piece_line.specs.Line.{after, cipher_piece, tag_in}
@@ -42,9 +40,9 @@ early s = not (eqb (taken_in s) (announced_in s))
 unfoldable pub wanting : (off : Bool) (n room : ℕ) → List Cause
 wanting off n room = (state_mismatch if off) ∷ (room_short if ltb room n) ∷ []
 
-abbrev pub seal_piece_in : (line : Found) (s piece room : List ℕ) → Result
-seal_piece_in Unknown s piece room = refusal state_mismatch s room
-seal_piece_in (Known suite) s piece room =
+abbrev pub seal_piece_in : (line : Option Suite) (s piece room : List ℕ) → Result
+seal_piece_in None s piece room = refusal state_mismatch s room
+seal_piece_in (Some suite) s piece room =
     let c = cipher_piece suite s piece in
     concluded (first (wanting (past s (length piece)) (length piece) (length room))) s room
     (record { number = 0; written = length piece; state = after suite s c; room = pasted room 0 c })
@@ -52,9 +50,9 @@ seal_piece_in (Known suite) s piece room =
 unfoldable pub seal_piece : (s piece room : List ℕ) → Result
 seal_piece s piece room = seal_piece_in (line_of sealing s) s piece room
 
-abbrev pub seal_end_in : (line : Found) (s room : List ℕ) → Result
-seal_end_in Unknown s room = refusal state_mismatch s room
-seal_end_in (Known suite) s room =
+abbrev pub seal_end_in : (line : Option Suite) (s room : List ℕ) → Result
+seal_end_in None s room = refusal state_mismatch s room
+seal_end_in (Some suite) s room =
     concluded (first (wanting (early s) (Nt suite) (length room))) s room
     (record { number = 0; written = Nt suite; state = s; room = pasted room 0 (tag_in suite s) })
 
@@ -63,9 +61,9 @@ seal_end s room = seal_end_in (line_of sealing s) s room
 
 -- ---- checking
 
-abbrev pub check_piece_in : (line : Found) (s piece : List ℕ) → Result
-check_piece_in Unknown s piece = refusal state_mismatch s []
-check_piece_in (Known suite) s piece =
+abbrev pub check_piece_in : (line : Option Suite) (s piece : List ℕ) → Result
+check_piece_in None s piece = refusal state_mismatch s []
+check_piece_in (Some suite) s piece =
     concluded (first ((state_mismatch if past s (length piece)) ∷ [])) s []
     (record { number = 0; written = 0; state = after suite s piece; room = [] })
 
@@ -73,9 +71,9 @@ unfoldable pub check_piece : (s piece : List ℕ) → Result
 check_piece s piece = check_piece_in (line_of checking s) s piece
 
 -- The end of a check changes nothing: its answer is a number.
-abbrev pub check_end_in : (line : Found) (s tag : List ℕ) → ℕ
-check_end_in Unknown s tag = state_mismatch
-check_end_in (Known suite) s tag =
+abbrev pub check_end_in : (line : Option Suite) (s tag : List ℕ) → ℕ
+check_end_in None s tag = state_mismatch
+check_end_in (Some suite) s tag =
     first
     ((state_mismatch if early s)
     ∷ (frame_short if not (eqb (length tag) (Nt suite)))

@@ -7,18 +7,19 @@ mod beginning;
 
 ghost use Rattle.std.specs.Prelude.{◌≡◌, ◌+◌, ◌≤◌, length};
 ghost use Rattle.octets.specs.Octets.{pasted, same};
+ghost use Rattle.answers.specs.Refusals.{number_of, written_of};
 ghost use Rattle.answers.specs.Limits.{max_plaintext};
 ghost use Rattle.piece_line.specs.State.{state_size, announced_in, taken_in};
 ghost use Rattle.suites.specs.Suites.{Nt};
 ghost use Rattle.piece_line.specs.Line.{after, cipher_piece, tag_in};
 ghost use Rattle.pieces.specs.Calls.{past, early, seal_piece, seal_end, check_piece, check_end};
 
-use answers::{Answer, DONE, FRAME_SHORT, ROOM_SHORT, STATE_MISMATCH, TAG_DIFFERS, refused};
+use answers::Refusal;
 pub use beginning::begin;
-pub use piece_line::state::{CHECKING, SEALING, STATE_SIZE};
+pub use piece_line::state::{Kind, STATE_SIZE};
 use piece_line::state::{announced_of, line_of, taken_of};
 use piece_line::{seal_in, tag_of, take_in};
-use suites::{Found, Suite};
+use suites::Suite;
 
 // Whether a piece of n bytes goes past what was announced.
 fn is_past(state: &[u8], n: usize) -> bool
@@ -47,63 +48,51 @@ fn encrypt_piece(suite: Suite, state: &mut [u8], piece: &[u8], room: &mut [u8])
 }
 
 // Seals a piece: its ciphertext stands at the front of the room.
-pub fn seal_piece(state: &mut [u8], piece: &[u8], room: &mut [u8]) -> Answer
-    ensures number_value { (result.number ≡ (seal_piece state.old piece.now room.old).number) × (result.length ≡ (seal_piece state.old piece.now room.old).written) }
+pub fn seal_piece(state: &mut [u8], piece: &[u8], room: &mut [u8]) -> Result<usize, Refusal>
+    ensures number_value { (number_of result ≡ (seal_piece state.old piece.now room.old).number) × (written_of result ≡ (seal_piece state.old piece.now room.old).written) }
     ensures state_after { state.new ≡ (seal_piece state.old piece.now room.old).state }
     ensures room_after { room.new ≡ (seal_piece state.old piece.now room.old).room }
 {
-    let Found::Known(suite) = line_of(state, SEALING) else {
-        return refused(STATE_MISMATCH);
-    };
+    let suite = line_of(state, Kind::Sealing).ok_or(Refusal::StateMismatch)?;
     if is_past(state, piece.len()) {
-        return refused(STATE_MISMATCH);
+        return Err(Refusal::StateMismatch);
     }
     if room.len() < piece.len() {
-        return refused(ROOM_SHORT);
+        return Err(Refusal::RoomShort);
     }
     encrypt_piece(suite, state, piece, room);
-    Answer {
-        number: DONE,
-        length: piece.len(),
-    }
+    Ok(piece.len())
 }
 
 // Ends a sealing: the tag stands at the front of the room. It may be called again.
-pub fn seal_end(state: &[u8], room: &mut [u8]) -> Answer
-    ensures number_value { (result.number ≡ (seal_end state.now room.old).number) × (result.length ≡ (seal_end state.now room.old).written) }
+pub fn seal_end(state: &[u8], room: &mut [u8]) -> Result<usize, Refusal>
+    ensures number_value { (number_of result ≡ (seal_end state.now room.old).number) × (written_of result ≡ (seal_end state.now room.old).written) }
     ensures room_after { room.new ≡ (seal_end state.now room.old).room }
 {
-    let Found::Known(suite) = line_of(state, SEALING) else {
-        return refused(STATE_MISMATCH);
-    };
+    let suite = line_of(state, Kind::Sealing).ok_or(Refusal::StateMismatch)?;
     if is_early(state) {
-        return refused(STATE_MISMATCH);
+        return Err(Refusal::StateMismatch);
     }
     let nt = suite.tag_size();
     if room.len() < nt {
-        return refused(ROOM_SHORT);
+        return Err(Refusal::RoomShort);
     }
     let t = tag_of(suite, state);
     octets::copy_at(room, 0, &t[0..nt]);
-    Answer {
-        number: DONE,
-        length: nt,
-    }
+    Ok(nt)
 }
 
 // Checks a piece of ciphertext.
-pub fn check_piece(state: &mut [u8], piece: &[u8]) -> u32
-    ensures value { result ≡ (check_piece state.old piece.now).number }
+pub fn check_piece(state: &mut [u8], piece: &[u8]) -> Result<(), Refusal>
+    ensures value { number_of result ≡ (check_piece state.old piece.now).number }
     ensures state_after { state.new ≡ (check_piece state.old piece.now).state }
 {
-    let Found::Known(suite) = line_of(state, CHECKING) else {
-        return STATE_MISMATCH;
-    };
+    let suite = line_of(state, Kind::Checking).ok_or(Refusal::StateMismatch)?;
     if is_past(state, piece.len()) {
-        return STATE_MISMATCH;
+        return Err(Refusal::StateMismatch);
     }
     take_in(suite, state, piece);
-    DONE
+    Ok(())
 }
 
 // Whether a tag of the suite's length is that of what was taken: every byte of it is compared.
@@ -117,21 +106,19 @@ fn is_tag(suite: Suite, state: &[u8], tag: &[u8]) -> bool
 }
 
 // Ends a check: whether that is the tag of what was taken.
-pub fn check_end(state: &[u8], tag: &[u8]) -> u32
-    ensures { result ≡ check_end state.now tag.now }
+pub fn check_end(state: &[u8], tag: &[u8]) -> Result<(), Refusal>
+    ensures { number_of result ≡ check_end state.now tag.now }
 {
-    let Found::Known(suite) = line_of(state, CHECKING) else {
-        return STATE_MISMATCH;
-    };
+    let suite = line_of(state, Kind::Checking).ok_or(Refusal::StateMismatch)?;
     if is_early(state) {
-        return STATE_MISMATCH;
+        return Err(Refusal::StateMismatch);
     }
     let nt = suite.tag_size();
     if tag.len() != nt {
-        return FRAME_SHORT;
+        return Err(Refusal::FrameShort);
     }
     if !is_tag(suite, state, tag) {
-        return TAG_DIFFERS;
+        return Err(Refusal::TagDiffers);
     }
-    DONE
+    Ok(())
 }

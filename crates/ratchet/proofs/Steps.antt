@@ -1,13 +1,14 @@
 -- SPDX-License-Identifier: MIT
 -- The steps of the code, over plain variables. Assumes nothing.
-use mathlib.Core.Path.{◌≡◌, refl, sym, ◌∙◌, ap, ap₂}
-use mathlib.Core.Bool.{Bool, true, false}
+use Rattle.std.specs.Prelude.{Some, None}
+use mathlib.Core.Path.{◌≡◌, refl, sym, ◌∙◌, ap}
+use mathlib.Core.Bool.{true}
 use mathlib.Core.List.{List, [], ◌++◌, append-nil}
 use Prim.Native.Nat.{ℕ, zero, suc, ◌+◌, ◌*◌, ◌%◌, ◌^◌, ◌-◌, ◌<◌, ◌≤◌}
 use native.Mathlib.Nat.{sub-zero, mod-eq_of_lt, one-mul, lt_of_le_of_lt, le-add_right}
 use native.Mathlib.Numerals.{add-one}
 use native.Mathlib.Omega.{arith}
-use lib.Dec.{leb, ltb}
+use lib.Dec.{leb}
 use lib.ListN.{length, take, drop, drop_of_length-le}
 use lib.Pow.{pow-lt, pow_pos}
 use lib.Seq.{take_at, length-take-le}
@@ -19,10 +20,8 @@ use Rattle.answers.specs.Limits.{base_key_least, base_key_most}
 use Rattle.answers.proofs.Basics.{settled-refused, settled-done, passes, both_true}
 use Rattle.suites.specs.Suites.{suite_of, Nh}
 use Rattle.suites.specs.declared.sizes.Suite.{Suite}
-use Rattle.suites.specs.declared.sizes.Found.{Found}
-use Rattle.suites.specs.declared.sizes.Found.TheVariants.{Known, Unknown}
 use Rattle.ratchet.specs.Ratchet.{next_key, walked, ratchet_kid}
-use Rattle.ratchet.specs.Calls.{max_steps, max_bits, key_after, is_known, walk_causes, walk_with, walk, kid_causes, given, kid_number, kid_given}
+use Rattle.ratchet.specs.Calls.{max_steps, max_bits, walk_causes, walk_with, walk, kid_causes, kid_number, kid_given}
 use Rattle.ratchet.specs.Inner.Sizes.{walked_size}
 use Rattle.suites.proofs.Laws.{Nh-most}
 use Rattle.ratchet.proofs.Laws.{next-length, walked-length, size-accepted, kid-fits, kid-past}
@@ -128,7 +127,7 @@ front-walked l p x n e = rw (sub-zero, e)
 abbrev Answers : (number length : ℕ) (room : List ℕ) (o : Outcome) → Type 0
 Answers number length room o = ((number ≡ o.number) × (length ≡ o.written)) × (room ≡ o.room)
 
-pub walk-unknown : (suite : ℕ) (base : List ℕ) (steps : ℕ) (room : List ℕ) → suite_of suite ≡ Unknown → Answers suite_unknown 0 room (walk suite base steps room)
+pub walk-unknown : (suite : ℕ) (base : List ℕ) (steps : ℕ) (room : List ℕ) → suite_of suite ≡ None → Answers suite_unknown 0 room (walk suite base steps room)
 unfolding walk walk_with walk_causes first settled
 walk-unknown suite base steps room e = ((rw e, rw e), rw e)
 
@@ -136,7 +135,7 @@ abbrev walk-success : (key room : List ℕ) → Outcome
 walk-success key room = record { number = 0; written = length key; store = []; room = key ++ drop (length key) room; state = [] }
 
 -- s is the suite, n the length of the key after the steps and k the number that the walk was judged with
-module _ (suite : ℕ) (base : List ℕ) (steps : ℕ) (room : List ℕ) (s : Suite) (e : suite_of suite ≡ Known s) (n k : ℕ) (w : n ≡ walked_size s (length base) steps)
+module _ (suite : ℕ) (base : List ℕ) (steps : ℕ) (room : List ℕ) (s : Suite) (e : suite_of suite ≡ Some s) (n k : ℕ) (w : n ≡ walked_size s (length base) steps)
     (q : k ≡ first (walk_causes true (length base) steps n (length room))) where
   size_is : n ≡ length (walked s base steps)
   size_is = w ∙ sym (walked-length s base steps)

@@ -1,14 +1,15 @@
 -- SPDX-License-Identifier: MIT
 -- The two calls of the ratchet: number, result and room afterwards, for every input. The causes of refusal stand in the order in
 -- which they are tried. Assumes nothing.
-use Rattle.std.specs.Prelude.{Bool, true, false, not, List, [], ◌∷◌, ◌++◌, ℕ, zero, suc, ◌^◌, leb, ltb, length, drop}
+use Rattle.suites.specs.declared.sizes.Suite.{Suite}
+use Rattle.std.specs.Prelude.{Result, Ok, Err, Option, Some, None, Bool, true, false, not, List, [], ◌∷◌, ◌++◌, ℕ, zero, suc, ◌^◌, leb, ltb, length, drop}
+use Rattle.header.specs.declared.Kid.{Kid}
+use Rattle.answers.specs.declared.Refusal.{Refusal}
 use Rattle.octets.specs.Octets.{both}
 use Rattle.header.specs.Answers.{room_short}
 use Rattle.answers.specs.Answers.{suite_unknown, base_key_size, ratchet_kid_invalid, steps_too_many, Cause, ◌if◌, first, Outcome, settled}
 use Rattle.answers.specs.Limits.{base_key_least, base_key_most}
 use Rattle.suites.specs.Suites.{suite_of}
-use Rattle.suites.specs.declared.sizes.Found.{Found}
-use Rattle.suites.specs.declared.sizes.Found.TheVariants.{Known, Unknown}
 use Rattle.ratchet.specs.Ratchet.{walked, ratchet_kid}
 
 -- ---- the walk of a key
@@ -17,14 +18,14 @@ use Rattle.ratchet.specs.Ratchet.{walked, ratchet_kid}
 abbrev pub max_steps : ℕ
 max_steps = 64
 
-abbrev pub is_known : Found → Bool
-is_known (Known s) = true
-is_known Unknown = false
+abbrev pub is_known : Option Suite → Bool
+is_known (Some s) = true
+is_known None = false
 
 -- The key after the steps; none where the suite is not known.
-abbrev pub key_after : (suite : Found) (base : List ℕ) (steps : ℕ) → List ℕ
-key_after (Known s) base steps = walked s base steps
-key_after Unknown base steps = []
+abbrev pub key_after : (suite : Option Suite) (base : List ℕ) (steps : ℕ) → List ℕ
+key_after (Some s) base steps = walked s base steps
+key_after None base steps = []
 
 -- base, key and room are lengths: of the base key, of the key after the steps, of the room
 unfoldable pub walk_causes : (known : Bool) (base steps key room : ℕ) → List Cause
@@ -35,7 +36,7 @@ walk_causes known base steps key room =
     ∷ (room_short if ltb room key)
     ∷ []
 
-unfoldable pub walk_with : (suite : Found) (base : List ℕ) (steps : ℕ) (room : List ℕ) → Outcome
+unfoldable pub walk_with : (suite : Option Suite) (base : List ℕ) (steps : ℕ) (room : List ℕ) → Outcome
 walk_with suite base steps room =
     let key = key_after suite base steps in
     settled (first (walk_causes (is_known suite) (length base) steps (length key) (length room))) [] room (record { number = 0; written = length key; store = []; room = key ++ drop (length key) room; state = [] })
@@ -66,3 +67,8 @@ kid_number generation step bits = first (kid_causes generation step bits)
 
 unfoldable pub kid_given : (generation step bits : ℕ) → ℕ
 kid_given generation step bits = given (kid_number generation step bits) (ratchet_kid generation step bits)
+
+-- The KID that a call answers with: 0 where it is refused.
+abbrev pub kid_in : Result Kid Refusal → ℕ
+kid_in (Ok kid) = kid.0
+kid_in (Err r) = 0

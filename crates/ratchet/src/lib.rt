@@ -4,20 +4,18 @@
 #![tactic(auto)]
 
 ghost use Rattle.std.specs.Prelude.{◌≡◌, true, ◌^◌, ◌≤◌, ◌<◌, length};
-ghost use Rattle.answers.specs.Answers.{ratchet_kid_invalid, first};
+ghost use Rattle.answers.specs.Answers.{first};
+ghost use Rattle.answers.specs.Refusals.{number_of, written_of};
 ghost use Rattle.answers.specs.Limits.{base_key_most};
 ghost use Rattle.suites.specs.Suites.{Nh};
 ghost use Rattle.ratchet.specs.Ratchet.{next_key, walked};
-ghost use Rattle.ratchet.specs.Calls.{walk_causes, walk, kid_number, kid_given};
+ghost use Rattle.ratchet.specs.Calls.{walk_causes, walk, kid_number, kid_given, kid_in};
 ghost use Rattle.ratchet.specs.Inner.Sizes.{walked_size};
 
-use answers::{
-    Answer, BASE_KEY_SIZE, DONE, MAX_BASE_KEY, MIN_BASE_KEY, RATCHET_KID_INVALID, ROOM_SHORT,
-    STEPS_TOO_MANY, SUITE_UNKNOWN, refused,
-};
+use answers::{MAX_BASE_KEY, MIN_BASE_KEY, Refusal};
 use header::Kid;
 use suites::Suite;
-use suites::sizes::{Aes256GcmSha512, Found};
+use suites::sizes::Aes256GcmSha512;
 
 // The most steps of one walk.
 const MAX_STEPS: u64 = 64;
@@ -59,10 +57,8 @@ fn take_steps(suite: Suite, base: &[u8], steps: u64, out: &mut [u8])
         return;
     }
     next_key(suite, base, out);
-    let mut i: u64 = 1;
-    while i < steps {
+    for _ in 1..steps {
         step(suite, out);
-        i += 1;
     }
 }
 
@@ -76,60 +72,36 @@ fn walked_size(suite: Suite, base: usize, steps: u64) -> usize
     suite.hash_size()
 }
 
-// The number of a walk whose suite is known: of the lengths of base key, result and room.
-fn judge(base: usize, steps: u64, key: usize, room: usize) -> u32
-    ensures { result ≡ first (walk_causes true base steps key room) }
+// Why a walk whose suite is known is refused: of the lengths of base key, result and room.
+fn judge(base: usize, steps: u64, key: usize, room: usize) -> Result<(), Refusal>
+    ensures { number_of result ≡ first (walk_causes true base steps key room) }
 {
     if base < MIN_BASE_KEY {
-        return BASE_KEY_SIZE;
+        return Err(Refusal::BaseKeySize);
     }
     if MAX_BASE_KEY < base {
-        return BASE_KEY_SIZE;
+        return Err(Refusal::BaseKeySize);
     }
     if MAX_STEPS < steps {
-        return STEPS_TOO_MANY;
+        return Err(Refusal::StepsTooMany);
     }
     if room < key {
-        return ROOM_SHORT;
+        return Err(Refusal::RoomShort);
     }
-    DONE
+    Ok(())
 }
 
 // Walks a base key so many steps forward: the key stands at the start of the room. The causes are tried in the order 2,
 // 3, 21, 12.
-pub fn walk(suite: u64, base: &[u8], steps: u64, room: &mut [u8]) -> Answer
-    ensures number_value { (result.number ≡ (walk suite base.now steps room.old).number) × (result.length ≡ (walk suite base.now steps room.old).written) }
+pub fn walk(suite: u64, base: &[u8], steps: u64, room: &mut [u8]) -> Result<usize, Refusal>
+    ensures number_value { (number_of result ≡ (walk suite base.now steps room.old).number) × (written_of result ≡ (walk suite base.now steps room.old).written) }
     ensures room_after { room.new ≡ (walk suite base.now steps room.old).room }
 {
-    let Found::Known(known) = suites::sizes::find(suite) else {
-        return refused(SUITE_UNKNOWN);
-    };
+    let known = suites::sizes::find(suite).ok_or(Refusal::SuiteUnknown)?;
     let n = walked_size(known, base.len(), steps);
-    let number = judge(base.len(), steps, n, room.len());
-    if number != DONE {
-        return refused(number);
-    }
+    judge(base.len(), steps, n, room.len())?;
     take_steps(known, base, steps, &mut room[0..n]);
-    Answer {
-        number: DONE,
-        length: n,
-    }
-}
-
-// What the KID of a generation and a step is answered with: its number, and the KID, which is 0 where it is refused.
-#[derive(Clone, Copy)]
-pub struct Numbered {
-    pub number: u32,
-    pub kid: Kid,
-}
-
-fn kid_refused() -> Numbered
-    ensures { (result.number ≡ ratchet_kid_invalid) × (result.kid.0 ≡ 0) }
-{
-    Numbered {
-        number: RATCHET_KID_INVALID,
-        kid: Kid(0),
-    }
+    Ok(n)
 }
 
 // 2 to the n.
@@ -141,22 +113,19 @@ fn power(n: u64) -> u64
 }
 
 // The KID of a generation and a step, of which it has the low bits.
-pub fn kid_of(generation: u64, step: u64, bits: u64) -> Numbered
-    ensures { (result.number ≡ kid_number generation step bits) × (result.kid.0 ≡ kid_given generation step bits) }
+pub fn kid_of(generation: u64, step: u64, bits: u64) -> Result<Kid, Refusal>
+    ensures { (number_of result ≡ kid_number generation step bits) × (kid_in result ≡ kid_given generation step bits) }
 {
     if bits < 1 {
-        return kid_refused();
+        return Err(Refusal::RatchetKidInvalid);
     }
     if MAX_BITS < bits {
-        return kid_refused();
+        return Err(Refusal::RatchetKidInvalid);
     }
     if power(KID_BITS - bits) <= generation {
-        return kid_refused();
+        return Err(Refusal::RatchetKidInvalid);
     }
     let window = power(bits);
     let kid = generation * window + step % window;
-    Numbered {
-        number: DONE,
-        kid: Kid(kid),
-    }
+    Ok(Kid(kid))
 }

@@ -1,5 +1,6 @@
 -- SPDX-License-Identifier: MIT
 -- What a Seal and a Begin make under a record is made from the inputs that they list, the hash key's, and no others. Assumes nothing.
+use Rattle.std.specs.Prelude.{Option}
 use mathlib.Core.Path.{◌≡◌, refl, sym, ◌∙◌, ap, subst}
 use mathlib.Core.Bool.{Bool, true}
 use mathlib.Core.List.{List, [], ◌∷◌, ◌++◌}
@@ -11,8 +12,6 @@ use Rattle.octets.specs.Octets.{Octets, pick, both, pasted}
 use Rattle.header.specs.Header.{header}
 use Rattle.answers.specs.Answers.{Outcome}
 use Rattle.suites.specs.declared.sizes.Suite.{Suite}
-use Rattle.suites.specs.declared.sizes.Found.{Found}
-use Rattle.suites.specs.declared.sizes.Found.TheVariants.{Known}
 use Rattle.suites.specs.Suites.{mode_of, Nk, suite_of as named}
 use Rattle.suites.specs.Derivation.{nonce}
 use Rattle.aead.specs.Aead as Aead
@@ -57,7 +56,7 @@ module _ (F : List ℕ → List ℕ) (r : SendingKey) (fit : Fit (sending r)) wh
   unfolding hash_key_inputs begun_inputs
   agree-as n h =
       subst
-      (λ (f : Found). AgreeOn (λ (b : List ℕ). with_suite [] (λ s. aes s r.key b) f) F (with_suite [] (λ s. key_inputs (mode_of s)) f ++ with_suite [] (λ s. sealing_inputs (mode_of s) (nonce r.salt r.counter) n) f))
+      (λ (f : Option Suite). AgreeOn (λ (b : List ℕ). with_suite [] (λ s. aes s r.key b) f) F (with_suite [] (λ s. key_inputs (mode_of s)) f ++ with_suite [] (λ s. sealing_inputs (mode_of s) (nonce r.salt r.counter) n) f))
       m.found h
 
   module _ (kid : ℕ) (metadata : List ℕ) where
@@ -68,17 +67,17 @@ module _ (F : List ℕ → List ℕ) (r : SendingKey) (fit : Fit (sending r)) wh
         → frame sframe r.suite r.key r.salt kid r.counter metadata p ≡ next_frame_by F (sending r) kid metadata p
     unfolding frame frame_with Sframe.encrypt_by next_frame_by
     frame-listed p h =
-        ap (λ (f : Found). header kid r.counter ++ with_suite [] (λ s. Aead.encrypt s r.key (nonce r.salt r.counter) covered p) f) m.found
+        ap (λ (f : Option Suite). header kid r.counter ++ with_suite [] (λ s. Aead.encrypt s r.key (nonce r.salt r.counter) covered p) f) m.found
         ∙ ap (λ (l : List ℕ). header kid r.counter ++ l) (encrypt-listed F m.suite r.key sized (nonce r.salt r.counter) covered p (agree-as (length p) h))
-        ∙ ap (λ (f : Found). header kid r.counter ++ with_suite [] (λ s. aead_by F s r.key (nonce r.salt r.counter) covered p) f) (sym m.found)
+        ∙ ap (λ (f : Option Suite). header kid r.counter ++ with_suite [] (λ s. aead_by F s r.key (nonce r.salt r.counter) covered p) f) (sym m.found)
 
     state-listed : (n : ℕ) → AgreeOn (aes_under (sending r)) F (held_inputs (sending r) ++ begun_inputs sframe (sending r) n)
         → first_state sframe sealing (sending r) r.counter n covered ≡ next_state_by F (sending r) kid metadata n
     unfolding first_state next_state_by
     state-listed n h =
-        ap (λ (f : Found). with_suite [] (λ s. begun sealing s n (nonce r.salt r.counter) r.key covered) f) m.found
+        ap (λ (f : Option Suite). with_suite [] (λ s. begun sealing s n (nonce r.salt r.counter) r.key covered) f) m.found
         ∙ begun-listed F m.suite r.key sized sealing n (nonce r.salt r.counter) covered (agree-as n h)
-        ∙ ap (λ (f : Found). with_suite [] (λ s. begun_by F sealing s n (nonce r.salt r.counter) r.key covered) f) (sym m.found)
+        ∙ ap (λ (f : Option Suite). with_suite [] (λ s. begun_by F sealing s n (nonce r.salt r.counter) r.key covered) f) (sym m.found)
 
 -- ---- on a sound store
 

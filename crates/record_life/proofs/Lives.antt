@@ -1,5 +1,6 @@
 -- SPDX-License-Identifier: MIT
 -- What is listed after a record: each input once, with nonces of counters that the record has not used. Assumes nothing.
+use Rattle.std.specs.Prelude.{Option, Some, None}
 use mathlib.Core.Path.{◌≡◌, refl, sym, ◌∙◌, ap}
 use mathlib.Core.Bool.{true}
 use mathlib.Core.List.{List, [], ◌∷◌, ◌++◌}
@@ -9,8 +10,6 @@ use lib.ListN.{length}
 use Rattle.answers.specs.Limits.{max_plaintext}
 use Rattle.suites.specs.Suites.{mode_of, suite_of as named}
 use Rattle.suites.specs.declared.sizes.Suite.{Suite}
-use Rattle.suites.specs.declared.sizes.Found.{Found}
-use Rattle.suites.specs.declared.sizes.Found.TheVariants.{Known, Unknown}
 use Rattle.key_record.specs.Suites.{with_suite}
 use Rattle.key_record.specs.Record.{ceiling, SendingKey, RetiredKey, KeyRecord, empty, sending, receiving, retired}
 use Rattle.key_record.proofs.Codec.{Fit}
@@ -53,9 +52,9 @@ module _ (cipher : Cipher) where
   key-good r l g =
       by (named r.suite) (every_map (Later r.suite r.salt r.counter) (λ b. least r.suite ≤ block_count b) (later-count r.suite r.salt r.counter) l g.1)
     where
-      by : (f : Found) → Every (λ b. with_suite 0 (λ s. lowest (mode_of s)) f ≤ block_count b) l → Once (with_suite [] (λ s. key_inputs (mode_of s)) f ++ l)
-      by (Known s) p = key-once (mode_of s) l p g.0
-      by Unknown p = g.0
+      by : (f : Option Suite) → Every (λ b. with_suite 0 (λ s. lowest (mode_of s)) f ≤ block_count b) l → Once (with_suite [] (λ s. key_inputs (mode_of s)) f ++ l)
+      by (Some s) p = key-once (mode_of s) l p g.0
+      by None p = g.0
 
   pub held-good : (held : KeyRecord) (l : List (List ℕ)) → Good held l → Once (held_inputs held ++ l)
   held-good empty l g = g
@@ -78,19 +77,19 @@ module _ (cipher : Cipher) where
     unfolding begun_inputs least Own
     begun-own = by (named r.suite)
       where
-        by : (f : Found) → Every (λ b. (block_nonce b ≡ iv) × (with_suite 0 (λ s. lowest (mode_of s)) f ≤ block_count b)) (with_suite [] (λ s. sealing_inputs (mode_of s) iv n) f)
-        by (Known s) =
+        by : (f : Option Suite) → Every (λ b. (block_nonce b ≡ iv) × (with_suite 0 (λ s. lowest (mode_of s)) f ≤ block_count b)) (with_suite [] (λ s. sealing_inputs (mode_of s) iv n) f)
+        by (Some s) =
             every_map (Of iv (lowest (mode_of s)) (2 ^ 32)) (λ b. (block_nonce b ≡ iv) × (lowest (mode_of s) ≤ block_count b)) (λ b p. (p.0, p.1))
             (sealing_inputs (mode_of s) iv n) (sealing-of iv iv-sized n short (mode_of s))
-        by Unknown = tt
+        by None = tt
 
     begun-once : Once (begun_inputs cipher (sending r) n)
     unfolding begun_inputs
     begun-once = by (named r.suite)
       where
-        by : (f : Found) → Once (with_suite [] (λ s. sealing_inputs (mode_of s) iv n) f)
-        by (Known s) = sealing-once iv iv-sized n short (mode_of s)
-        by Unknown = tt
+        by : (f : Option Suite) → Once (with_suite [] (λ s. sealing_inputs (mode_of s) iv n) f)
+        by (Some s) = sealing-once iv iv-sized n short (mode_of s)
+        by None = tt
 
     -- none has the nonce of a later counter
     apart : (b c : List ℕ) → Own b → Later r.suite r.salt (r.counter + 1) c → b ≡ c → ⊥

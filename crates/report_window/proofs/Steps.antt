@@ -1,5 +1,6 @@
 -- SPDX-License-Identifier: MIT
 -- What a report answers, cause by cause, over plain variables. Assumes nothing.
+use Rattle.std.specs.Prelude.{Option, Some, None}
 use mathlib.Core.Path.{◌≡◌, sym, ◌∙◌, ap}
 use mathlib.Core.Bool.{Bool, true, false, not}
 use mathlib.Core.List.{List}
@@ -15,8 +16,6 @@ use Rattle.key_record.proofs.KindLaws.{holds-some}
 use Rattle.store.specs.Store.{records, sound}
 use Rattle.store.specs.Table.{get}
 use Rattle.store.specs.Inner.Places.{RowOf, FoundIn}
-use Rattle.store.specs.declared.Place.{Place}
-use Rattle.store.specs.declared.Place.TheVariants.{At, Nowhere}
 use Rattle.report_window.specs.Report.{report_causes, report, reported}
 
 -- number and count
@@ -27,13 +26,13 @@ pub report-unsound : (s : List ℕ) (kid : ℕ) (r : Bool) → r ≡ sound s →
 unfolding reported report report_causes first settled
 report-unsound s kid r e t = let z = told-false r _ e t in (rw z, rw z)
 
-module _ (s : List ℕ) (kid : ℕ) (is-sound : sound s ≡ true) (p : Place) (w : FoundIn p kid (records s)) where
-  pub report-missing : p ≡ Nowhere → Tells s kid kid_missing 0
+module _ (s : List ℕ) (kid : ℕ) (is-sound : sound s ≡ true) (p : Option ℕ) (w : FoundIn p kid (records s)) where
+  pub report-missing : p ≡ None → Tells s kid kid_missing 0
   unfolding reported report report_causes first settled
   report-missing q = let g : get kid (records s) ≡ empty = rw q at w in (rw (is-sound, g), rw (is-sound, g))
 
-  module _ (i : ℕ) (q : p ≡ At i) (l : List ℕ) (r : RowOf s i l) where
-    found : FoundIn (At i) kid (records s)
+  module _ (i : ℕ) (q : p ≡ Some i) (l : List ℕ) (r : RowOf s i l) where
+    found : FoundIn (Some i) kid (records s)
     found = rw q at w
 
     -- the record that holds the KID is the one whose bytes are read

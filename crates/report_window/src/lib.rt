@@ -3,43 +3,24 @@
 #![tactic(auto)]
 
 ghost use Rattle.std.specs.Prelude.{◌≡◌};
+ghost use Rattle.answers.specs.Refusals.{number_of, written_of};
 ghost use Rattle.report_window.specs.Report.{report, reported};
 
-use answers::{DONE, KID_MISSING, ROLE_REFUSED, STORE_INVALID};
+use answers::Refusal;
 use header::Kid;
-use store::Place;
-
-// What a report answers: its number, and the count.
-#[derive(Clone, Copy)]
-pub struct Counted {
-    pub number: u32,
-    pub count: u64,
-}
-
-// The answer of a report that is refused.
-fn refused(number: u32) -> Counted
-    ensures { (result.number ≡ number) × (result.count ≡ 0) }
-{
-    Counted { number, count: 0 }
-}
 
 // Reports on the key of a KID.
-pub fn report(store: &[u8], kid: Kid) -> Counted
-    ensures { (result.number ≡ (report store.now kid.0).number) × (result.count ≡ reported store.now kid.0) }
+pub fn report(store: &[u8], kid: Kid) -> Result<u64, Refusal>
+    ensures { (number_of result ≡ (report store.now kid.0).number) × (written_of result ≡ reported store.now kid.0) }
 {
     if !store::is_sound(store) {
-        return refused(STORE_INVALID);
+        return Err(Refusal::StoreInvalid);
     }
-    let Place::At(i) = store::find(store, kid) else {
-        return refused(KID_MISSING);
-    };
+    let i = store::find(store, kid).ok_or(Refusal::KidMissing)?;
     let row = store::row_at(store, i);
     if !key_record::row::is_receiving(row) {
-        return refused(ROLE_REFUSED);
+        return Err(Refusal::RoleRefused);
     }
     let count = window::count(key_record::row::window_of(row));
-    Counted {
-        number: DONE,
-        count: count as u64,
-    }
+    Ok(count as u64)
 }

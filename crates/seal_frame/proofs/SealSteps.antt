@@ -1,5 +1,6 @@
 -- SPDX-License-Identifier: MIT
 -- The steps of sealing a frame, over plain variables. Assumes nothing.
+use Rattle.std.specs.Prelude.{Option, Some, None}
 use mathlib.Core.Path.{◌≡◌, refl, sym, ◌∙◌, ap, ap₂}
 use mathlib.Core.Bool.{Bool, true, false, not}
 use mathlib.Core.List.{List, [], ◌++◌, append_assoc}
@@ -31,8 +32,6 @@ use Rattle.store.specs.Store.{encode_all, records, sound}
 use Rattle.store.specs.Table.{get, put, apart}
 use Rattle.key_record.specs.Inner.Rows.{Numbered, counter_left}
 use Rattle.store.specs.Inner.Places.{RowOf, FoundIn}
-use Rattle.store.specs.declared.Place.{Place}
-use Rattle.store.specs.declared.Place.TheVariants.{At, Nowhere}
 use Rattle.key_record.proofs.Codec.{Fit}
 use Rattle.key_record.proofs.KindLaws.{fit-counter, holds-some}
 use Rattle.store.proofs.Stores.{sound-stored, kids-apart, get_fit}
@@ -134,12 +133,12 @@ module _ (s : List ℕ) (kid : ℕ) (metadata plaintext room : List ℕ) where
     unfolding seal seal_at success
     outcome-of held g = ap₂ (λ (v : Bool) (h : KeyRecord). seal_at sframe v h (records s) s kid metadata plaintext 0 room) is-sound g
 
-    pub seal-missing : (p : Place) → FoundIn p kid (records s) → p ≡ Nowhere → Leaves (seal sframe s kid metadata plaintext 0 room) kid_missing 0 s room
+    pub seal-missing : (p : Option ℕ) → FoundIn p kid (records s) → p ≡ None → Leaves (seal sframe s kid metadata plaintext 0 room) kid_missing 0 s room
     unfolding causes_of_seal seal_causes first settled
     seal-missing p f w = let g : get kid (records s) ≡ empty = rw w at f in leaves _ _ (outcome-of empty g)
 
-    module _ (p : Place) (f : FoundIn p kid (records s)) (i : ℕ) (w : p ≡ At i) where
-      found : FoundIn (At i) kid (records s)
+    module _ (p : Option ℕ) (f : FoundIn p kid (records s)) (i : ℕ) (w : p ≡ Some i) where
+      found : FoundIn (Some i) kid (records s)
       found = rw w at f
 
       pub held-there : (l : List ℕ) → RowOf s i l → is_empty (decode l) ≡ false

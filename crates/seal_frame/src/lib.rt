@@ -5,6 +5,7 @@
 ghost use Rattle.std.specs.Prelude.{◌≡◌, true, ◌++◌, ◌+◌, ◌≤◌, length, drop};
 ghost use Rattle.header.specs.Header.{max_header};
 ghost use Rattle.answers.specs.Answers.{done, first};
+ghost use Rattle.answers.specs.Refusals.{number_of, written_of};
 ghost use Rattle.answers.specs.Limits.{max_plaintext, max_metadata};
 ghost use Rattle.suites.specs.Suites.{Nt};
 ghost use Rattle.suites.specs.Derivation.{nonce};
@@ -15,9 +16,8 @@ ghost use Rattle.store.specs.Sframe.{sframe};
 ghost use Rattle.key_record.specs.Inner.Rows.{Row, Numbered, counter_left};
 ghost use Rattle.judge_seal.specs.Seal.{causes_of_seal, next_frame, seal};
 
-use answers::{Answer, DONE, KID_MISSING, STORE_INVALID, refused};
+use answers::Refusal;
 use header::{Kid, MAX_HEADER};
-use store::Place;
 use suites::sizes::Suite;
 
 // Fills out with ciphertext and tag under the key and the next counter of a sending record.
@@ -72,33 +72,25 @@ pub fn seal(
     metadata: &[u8],
     plaintext: &[u8],
     room: &mut [u8],
-) -> Answer
-    ensures number_value { (result.number ≡ (seal sframe store.old kid.0 metadata.now plaintext.now 0 room.old).number) × (result.length ≡ (seal sframe store.old kid.0 metadata.now plaintext.now 0 room.old).written) }
+) -> Result<usize, Refusal>
+    ensures number_value { (number_of result ≡ (seal sframe store.old kid.0 metadata.now plaintext.now 0 room.old).number) × (written_of result ≡ (seal sframe store.old kid.0 metadata.now plaintext.now 0 room.old).written) }
     ensures store_after { store.new ≡ (seal sframe store.old kid.0 metadata.now plaintext.now 0 room.old).store }
     ensures room_after { room.new ≡ (seal sframe store.old kid.0 metadata.now plaintext.now 0 room.old).room }
 {
     if !store::is_sound(store) {
-        return refused(STORE_INVALID);
+        return Err(Refusal::StoreInvalid);
     }
-    let Place::At(i) = store::find_near(store, kid, place) else {
-        return refused(KID_MISSING);
-    };
-    let number = judge_seal::judge(
+    let i = store::find_near(store, kid, place).ok_or(Refusal::KidMissing)?;
+    judge_seal::judge(
         store::row_at(store, i),
         kid,
         metadata.len(),
         plaintext.len(),
         room.len(),
-    );
-    if number != DONE {
-        return refused(number);
-    }
+    )?;
     let length = write_frame(store::row_at(store, i), kid, metadata, plaintext, room);
     store::advance_at(store, i);
-    Answer {
-        number: DONE,
-        length,
-    }
+    Ok(length)
 }
 
 // Seals with the frame at an offset in the room: the part from there on is lent to seal, and none of it where the offset lies
@@ -111,8 +103,8 @@ pub fn seal_at(
     plaintext: &[u8],
     room: &mut [u8],
     offset: usize,
-) -> Answer
-    ensures number_value { (result.number ≡ (seal sframe store.old kid.0 metadata.now plaintext.now offset room.old).number) × (result.length ≡ (seal sframe store.old kid.0 metadata.now plaintext.now offset room.old).written) }
+) -> Result<usize, Refusal>
+    ensures number_value { (number_of result ≡ (seal sframe store.old kid.0 metadata.now plaintext.now offset room.old).number) × (written_of result ≡ (seal sframe store.old kid.0 metadata.now plaintext.now offset room.old).written) }
     ensures store_after { store.new ≡ (seal sframe store.old kid.0 metadata.now plaintext.now offset room.old).store }
     ensures room_after { room.new ≡ (seal sframe store.old kid.0 metadata.now plaintext.now offset room.old).room }
 {

@@ -1,5 +1,6 @@
 -- SPDX-License-Identifier: MIT
 -- The steps of sealing an object, over plain variables. Assumes nothing.
+use Rattle.std.specs.Prelude.{Option, Some, None}
 use mathlib.Core.Path.{◌≡◌, refl, sym, ◌∙◌, ap, ap₂}
 use mathlib.Core.Bool.{Bool, true, false, not}
 use mathlib.Core.List.{List, [], ◌++◌}
@@ -17,7 +18,6 @@ use Rattle.answers.proofs.Basics.{told-false, told-true, passes, settled-done, s
 use Rattle.answers.proofs.Limits.{not-long}
 use Rattle.suites.specs.Suites.{Nt}
 use Rattle.suites.specs.declared.sizes.Suite.{Suite}
-use Rattle.suites.specs.declared.sizes.Found.TheVariants.{Known}
 use Rattle.suites.proofs.Laws.{Nt-most}
 use Rattle.secure_objects.specs.Objects.{name_most, object_ceiling, counter, secured}
 use Rattle.secure_objects.proofs.Laws.{secured-length}
@@ -29,8 +29,6 @@ use Rattle.track_record.proofs.Records.{holds-some, holds-name, Told}
 use Rattle.tracks.specs.Tracks.{encode_all, records, sound}
 use Rattle.tracks.specs.Table.{get, put, apart}
 use Rattle.tracks.specs.Inner.Places.{RowOf, FoundIn}
-use Rattle.tracks.specs.declared.Place.{Place}
-use Rattle.tracks.specs.declared.Place.TheVariants.{At, Nowhere}
 use Rattle.tracks.proofs.Stores.{sound-stored, get_fit}
 use Rattle.tracks.proofs.Tables.{put-at}
 use Rattle.seal_object.specs.Seal.{seal_causes, object_under, seal_at, seal}
@@ -103,7 +101,7 @@ clear held group object properties plaintext room z =
 
 -- ---- the object
 
-pub object-is : (held : TrackRecord) (s : Suite) (id : TrackId) (group object : ℕ) (properties plaintext : List ℕ) → suite_in held ≡ Known s
+pub object-is : (held : TrackRecord) (s : Suite) (id : TrackId) (group object : ℕ) (properties plaintext : List ℕ) → suite_in held ≡ Some s
     → object_under held id group object properties plaintext ≡ secured s (key_of held) (salt_of held) id.name id.key_id group object properties plaintext
 unfolding object_under
 object-is empty s id group object properties plaintext e = let z : ◌≡◌ {A = ℕ} 0 1 = cc in absurd (omega arith)
@@ -161,12 +159,12 @@ module _ (s : List ℕ) (id : TrackId) (group object : ℕ) (properties plaintex
     unfolding seal seal_at success
     outcome-of held g = ap₂ (λ (v : Bool) (h : TrackRecord). seal_at v h (records s) s id group object properties plaintext room) is-sound g
 
-    pub seal-missing : (p : Place) → FoundIn p id (records s) → p ≡ Nowhere → Leaves (seal s id group object properties plaintext room) kid_missing 0 s room
+    pub seal-missing : (p : Option ℕ) → FoundIn p id (records s) → p ≡ None → Leaves (seal s id group object properties plaintext room) kid_missing 0 s room
     unfolding seal_causes first settled
     seal-missing p f w = let g : get id (records s) ≡ empty = rw w at f in leaves _ _ (outcome-of empty g)
 
-    module _ (p : Place) (f : FoundIn p id (records s)) (i : ℕ) (w : p ≡ At i) where
-      found : FoundIn (At i) id (records s)
+    module _ (p : Option ℕ) (f : FoundIn p id (records s)) (i : ℕ) (w : p ≡ Some i) where
+      found : FoundIn (Some i) id (records s)
       found = rw w at f
 
       pub held-there : (l : List ℕ) → RowOf s i l → is_empty (decode l) ≡ false

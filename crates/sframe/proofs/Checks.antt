@@ -1,5 +1,6 @@
 -- SPDX-License-Identifier: MIT
 -- A check in pieces says yes exactly to the RFC's frames. Assumes nothing.
+use Rattle.std.specs.Prelude.{Option, Some}
 use mathlib.Core.Path.{◌≡◌, refl, sym, ◌∙◌, ap, ap₂, subst}
 use mathlib.Core.Bool.{Bool, true, false, not}
 use mathlib.Core.List.{List, [], ◌∷◌, ◌++◌, append-nil, append_assoc}
@@ -12,18 +13,15 @@ use lib.Seq.{take_at, drop_at, length-take-le}
 use borrow.Author.Tests.{le-ltb, eq-eqb, not-false}
 use Rattle.octets.specs.Octets.{Octets, pick, same, pasted}
 use Rattle.octets.proofs.Laws.{pasted-front, same_refl, same-eq}
-use Rattle.header.specs.Header.{read_header}
+use Rattle.header.specs.Header.{header_of, read_header}
 use Rattle.header.specs.Answers.{read_kid}
-use Rattle.header.specs.declared.Reading.{Reading}
-use Rattle.header.specs.declared.Reading.TheVariants.{Header}
+use Rattle.header.specs.declared.Header.{Header}
 use Rattle.header.proofs.Laws.{HeaderRead, header_read}
 use Rattle.answers.specs.Answers.{tag_differs, first, Outcome}
 use Rattle.answers.specs.Limits.{max_plaintext, max_metadata}
 use Rattle.answers.proofs.Basics.{Two, yes', no', two, SettledOn, success, refusal, settle-on}
 use Rattle.answers.proofs.Limits.{not-long}
 use Rattle.suites.specs.declared.sizes.Suite.{Suite}
-use Rattle.suites.specs.declared.sizes.Found.{Found}
-use Rattle.suites.specs.declared.sizes.Found.TheVariants.{Known}
 use Rattle.suites.specs.Suites.{suite_of, Nt}
 use Rattle.suites.specs.Derivation.{nonce}
 use Rattle.aead.specs.Aead as Aead
@@ -55,7 +53,7 @@ module _ (s : Suite) (n : ℕ) (iv key aad : List ℕ) (g : Line.Given s n iv ke
   T c tail = state_after checking s n iv key aad c ++ tail
 
   module _ (c tail : List ℕ) (h : length c ≤ n) where
-    known : line_of checking (T c tail) ≡ Known s
+    known : line_of checking (T c tail) ≡ Some s
     known = Line.line-is checking s n iv key aad g c tail h
 
     piece-takes : (d : List ℕ) → length c + length d ≤ n → (check_piece (T c tail) d).state ≡ T (c ++ d) tail
@@ -64,7 +62,7 @@ module _ (s : Suite) (n : ℕ) (iv key aad : List ℕ) (g : Line.Given s n iv ke
         let a = Line.announced-is checking s n iv key aad g c tail in
         let b = Line.taken_is checking s n iv key aad g c tail h in
         let in-time : past (T c tail) (length d) ≡ false = le-ltb (announced_in (T c tail)) (taken_in (T c tail) + length d) (omega arith) in
-        ap (λ (f : Found). (check_piece_in f (T c tail) d).state) known ∙ rw in-time (Line.taken-on checking s n iv key aad g c tail d k)
+        ap (λ (f : Option Suite). (check_piece_in f (T c tail) d).state) known ∙ rw in-time (Line.taken-on checking s n iv key aad g c tail d k)
 
     -- past its other causes, the end's answer is the tag's
     end_is : (tag : List ℕ) → length c ≡ n → length tag ≡ Nt s → check_end (T c tail) tag ≡ pick (not (same tag (Aead.tag s key iv aad c))) tag_differs 0
@@ -73,7 +71,7 @@ module _ (s : Suite) (n : ℕ) (iv key aad : List ℕ) (g : Line.Given s n iv ke
         let a = Line.announced-is checking s n iv key aad g c tail in
         let b = Line.taken_is checking s n iv key aad g c tail h in
         let whole : early (T c tail) ≡ false = ap not (eq-eqb (taken_in (T c tail)) (announced_in (T c tail)) (omega arith)) in
-        ap (λ (f : Found). check_end_in f (T c tail) tag) known
+        ap (λ (f : Option Suite). check_end_in f (T c tail) tag) known
         ∙ rw (whole, eq-eqb (length tag) (Nt s) l) (ap (λ (t : List ℕ). pick (not (same tag t)) tag_differs 0) (Line.tag_is checking s n iv key aad g c tail k))
 
     end-yes : (tag : List ℕ) → length c ≡ n → length tag ≡ Nt s → tag ≡ Aead.tag s key iv aad c → check_end (T c tail) tag ≡ 0
@@ -126,13 +124,13 @@ module _ (s metadata bytes : List ℕ) (announced : ℕ) (state : List ℕ) (r :
   here : get r.kid (records s) ≡ receiving r q.held.window
   here = get_at r.kid (records s) q.held.place (kids-apart stored.table) holds-kid ∙ q.held.holds-it
 
-  abbrev reading : Reading
-  reading = Header (record { 0 = r.kid }) (record { 0 = ctr }) n
+  abbrev reading : Option Header
+  reading = header_of (record { 0 = r.kid }) (record { 0 = ctr }) n
 
   begun-at : check_begin sframe s metadata bytes announced state ≡ check_at sframe true reading (receiving r q.held.window) s metadata bytes announced state
   begun-at =
       check-on sframe s (records s) stored metadata bytes announced state
-      ∙ ap (λ (h : Reading). check_at sframe true h (get (read_kid h) (records s)) s metadata bytes announced state) q.header_is
+      ∙ ap (λ (h : Option Header). check_at sframe true h (get (read_kid h) (records s)) s metadata bytes announced state) q.header_is
       ∙ ap (λ (h : KeyRecord). check_at sframe true reading h s metadata bytes announced state) here
 
   -- what the beginning left, and the sizes that it let pass
@@ -167,7 +165,7 @@ module _ (s metadata bytes : List ℕ) (announced : ℕ) (state : List ℕ) (r :
   abbrev aad : List ℕ
   aad = take n bytes ++ metadata
 
-  module _ (u : Suite) (found : suite_of r.suite ≡ Known u) (ds : List (List ℕ)) (tag : List ℕ) (oc : Octets (joined_all ds)) (lc : length (joined_all ds) ≡ announced) (lt : length tag ≡ tag_size r.suite) where
+  module _ (u : Suite) (found : suite_of r.suite ≡ Some u) (ds : List (List ℕ)) (tag : List ℕ) (oc : Octets (joined_all ds)) (lc : length (joined_all ds) ≡ announced) (lt : length tag ≡ tag_size r.suite) where
     given : Line.Given u announced iv r.key aad
     given =
         let l = front in

@@ -1,5 +1,6 @@
 -- SPDX-License-Identifier: MIT
 -- However a sealing is cut, its frame is the whole one; and a check in pieces says yes exactly to the RFC's frames. Assumes nothing.
+use Rattle.std.specs.Prelude.{Some}
 use mathlib.Core.Path.{◌≡◌, refl, sym, ◌∙◌, ap, ap₂, subst}
 use mathlib.Core.Bool.{Bool, true, false, not}
 use mathlib.Core.List.{List, [], ◌∷◌, ◌++◌, append-nil, append_assoc}
@@ -14,7 +15,6 @@ use Rattle.header.specs.Header.{header}
 use Rattle.header.proofs.Laws.{header-length}
 use Rattle.answers.specs.Answers.{first, Outcome}
 use Rattle.suites.specs.declared.sizes.Suite.{Suite}
-use Rattle.suites.specs.declared.sizes.Found.TheVariants.{Known}
 use Rattle.suites.specs.Suites.{suite_of, Nt}
 use Rattle.suites.specs.Derivation.{nonce}
 use Rattle.aead.specs.Aead as Aead
@@ -50,7 +50,7 @@ none-cut s key iv = by (ciphertext s key iv []) (ciphertext-length s key iv [])
     by [] e = refl
     by (x ∷ l) e = absurd (omega arith)
 
-module _ (num : ℕ) (s : Suite) (found : suite_of num ≡ Known s) (key iv aad : List ℕ) (n : ℕ) (g : Line.Given s n iv key aad) where
+module _ (num : ℕ) (s : Suite) (found : suite_of num ≡ Some s) (key iv aad : List ℕ) (n : ℕ) (g : Line.Given s n iv key aad) where
   abbrev E : List ℕ → List ℕ
   E p = ciphertext s key iv p
 
@@ -130,7 +130,7 @@ module _ (kid : ℕ) (metadata : List ℕ) (announced : ℕ) (state : List ℕ) 
   abbrev iv : List ℕ
   iv = nonce r.salt r.counter
 
-  module _ (s : Suite) (found : suite_of r.suite ≡ Known s) where
+  module _ (s : Suite) (found : suite_of r.suite ≡ Some s) where
     given : Line.Given s announced iv r.key (hd ++ metadata)
     given =
         let f = p.fit in

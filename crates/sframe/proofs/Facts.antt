@@ -9,8 +9,7 @@ use lib.ListN.{length, take, length-append}
 use Rattle.octets.specs.Octets.{Octets, pick, bytes}
 use Rattle.octets.proofs.Laws.{octets-append, bytes-octets}
 use Rattle.header.specs.Answers.{read_kid, read_ctr}
-use Rattle.header.specs.Header.{header, read_header, config, width}
-use Rattle.header.specs.declared.Reading.TheVariants.{Header}
+use Rattle.header.specs.Header.{header_of, header, read_header, config, width}
 use Rattle.header.proofs.Laws.{field-bits, read-header, header-length}
 use Rattle.answers.specs.Limits.{max_plaintext, max_metadata}
 use Rattle.suites.specs.Suites.{suite_of}
@@ -139,7 +138,7 @@ module _ (cipher : Cipher) (lines : Lines cipher) where
     pub ctr-fits : f.ctr < 2 ^ 64
     ctr-fits = omega (arith, f.ctr-below)
 
-    pub fact-reads : read_header x.frame ≡ Header (record { 0 = f.kid }) (record { 0 = f.ctr }) (length (header f.kid f.ctr))
+    pub fact-reads : read_header x.frame ≡ header_of (record { 0 = f.kid }) (record { 0 = f.ctr }) (length (header f.kid f.ctr))
     fact-reads = ap read_header f.frame_is ∙ read-header f.kid f.ctr _ f.kid-below ctr-fits
 
     pub fact-kid : kid_of x ≡ f.kid

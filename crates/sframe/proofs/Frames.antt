@@ -10,8 +10,7 @@ use lib.Seq.{take-length, take-append_seam, take_at}
 use Rattle.octets.specs.Octets.{Octets}
 use Rattle.octets.proofs.Laws.{octets-append}
 use Rattle.header.specs.Answers.{read_number}
-use Rattle.header.specs.Header.{header}
-use Rattle.header.specs.declared.Reading.TheVariants.{Header}
+use Rattle.header.specs.Header.{header_of, header}
 use Rattle.header.proofs.Laws.{header-begins}
 use Rattle.store.specs.Cipher.{Cipher}
 use Rattle.answers.proofs.Basics.{Two, yes', no', two}
@@ -158,7 +157,7 @@ module _ (cipher : Cipher) (laws : Laws cipher) (lines : Lines cipher) (x : Seal
             bytes-octets = frame-octets;
             header_is =
                 fact-reads cipher lines x earlier f
-                ∙ (λ i. Header (record { 0 = sym (fact-kid cipher lines x earlier f) i }) (record { 0 = sym (fact-ctr cipher lines x earlier f) i }) (length hd));
+                ∙ (λ i. header_of (record { 0 = sym (fact-kid cipher lines x earlier f) i }) (record { 0 = sym (fact-ctr cipher lines x earlier f) i }) (length hd));
             plaintext-most = omega (arith, f.plaintext-most, f.announced-most);
             metadata-most = f.metadata-most;
             room-enough = omega arith;

@@ -1,5 +1,6 @@
 -- SPDX-License-Identifier: MIT
 -- The five suites have the laws that the ledger uses of sealing in pieces. Assumes nothing.
+use Rattle.std.specs.Prelude.{Option, Some, None}
 use mathlib.Core.Path.{◌≡◌, refl, sym, ◌∙◌, ap, ap₂, subst}
 use mathlib.Core.Bool.{Bool, true, false}
 use mathlib.Core.List.{List, [], ◌∷◌, ◌++◌}
@@ -13,8 +14,6 @@ use Rattle.octets.proofs.Laws.{pasted_at}
 use Rattle.answers.specs.Answers.{first}
 use Rattle.answers.proofs.Basics.{Two, yes', no', two}
 use Rattle.suites.specs.declared.sizes.Suite.{Suite}
-use Rattle.suites.specs.declared.sizes.Found.{Found}
-use Rattle.suites.specs.declared.sizes.Found.TheVariants.{Known, Unknown}
 use Rattle.suites.specs.Suites.{suite_of, Nt}
 use Rattle.aead.specs.Aead as Aead
 use Rattle.aead.specs.Aead.{ciphertext}
@@ -48,7 +47,7 @@ step_by D off m r s room a z f = by (two off) (two (ltb r m))
 
 -- ---- one suite
 
-module _ (num : ℕ) (s : Suite) (found : suite_of num ≡ Known s) (key nonce aad : List ℕ) where
+module _ (num : ℕ) (s : Suite) (found : suite_of num ≡ Some s) (key nonce aad : List ℕ) where
   pub cut-is : (p : List ℕ) → cut_for num key nonce p ≡ ciphertext s key nonce p
   unfolding cut_for
   cut-is p = rw found
@@ -75,7 +74,7 @@ module _ (num : ℕ) (s : Suite) (found : suite_of num ≡ Known s) (key nonce a
       pub short : length (E p) ≤ n
       short = let e = ciphertext-length s key nonce p in omega arith
 
-      known : line_of sealing (S p tail) ≡ Known s
+      known : line_of sealing (S p tail) ≡ Some s
       known = Line.line-is sealing s n nonce key aad g (E p) tail short
 
       module _ (q room : List ℕ) where
@@ -111,7 +110,7 @@ module _ (num : ℕ) (s : Suite) (found : suite_of num ≡ Known s) (key nonce a
 
         pub piece_is : seal_piece (S p tail) q room ≡ concluded (first (wanting (past (S p tail) (length q)) (length q) (length room))) (S p tail) room answered
         unfolding seal_piece answered c
-        piece_is = ap (λ (f : Found). seal_piece_in f (S p tail) q room) known
+        piece_is = ap (λ (f : Option Suite). seal_piece_in f (S p tail) q room) known
 
         fits_in : past (S p tail) (length q) ≡ false → length p + length q ≤ n
         fits_in t =
@@ -157,7 +156,7 @@ module _ (num : ℕ) (s : Suite) (found : suite_of num ≡ Known s) (key nonce a
 
         pub end_is : seal_end (S p tail) room ≡ concluded (first (wanting (early (S p tail)) (Nt s) (length room))) (S p tail) room tagged
         unfolding seal_end tagged
-        end_is = ap (λ (f : Found). seal_end_in f (S p tail) room) known
+        end_is = ap (λ (f : Option Suite). seal_end_in f (S p tail) room) known
 
         pub end_by : Step (Closed n (length p) (tag_for num key nonce aad (cut_for num key nonce p)) (S p tail) (seal_end (S p tail) room)) (seal_end (S p tail) room)
         unfolding tagged
@@ -167,21 +166,21 @@ module _ (num : ℕ) (s : Suite) (found : suite_of num ≡ Known s) (key nonce a
 
 -- ---- no bytes
 
-no_line : line_of sealing [] ≡ Unknown
+no_line : line_of sealing [] ≡ None
 unfolding line_of fits
 no_line = refl
 
 piece-none : (q room : List ℕ) → (seal_piece [] q room).number ≡ 0 → ⊥
 unfolding seal_piece
-piece-none q room e = let z : ◌≡◌ {A = ℕ} 16 0 = ap (λ (f : Found). (seal_piece_in f [] q room).number) (sym no_line) ∙ e in omega arith
+piece-none q room e = let z : ◌≡◌ {A = ℕ} 16 0 = ap (λ (f : Option Suite). (seal_piece_in f [] q room).number) (sym no_line) ∙ e in omega arith
 
 end_none : (room : List ℕ) → (seal_end [] room).number ≡ 0 → ⊥
 unfolding seal_end
-end_none room e = let z : ◌≡◌ {A = ℕ} 16 0 = ap (λ (f : Found). (seal_end_in f [] room).number) (sym no_line) ∙ e in omega arith
+end_none room e = let z : ◌≡◌ {A = ℕ} 16 0 = ap (λ (f : Option Suite). (seal_end_in f [] room).number) (sym no_line) ∙ e in omega arith
 
 -- ---- the five suites
 
-pub given-as : (num : ℕ) (s : Suite) → suite_of num ≡ Known s → (key nonce aad : List ℕ) (n : ℕ) → Given num key nonce aad n → Line.Given s n nonce key aad
+pub given-as : (num : ℕ) (s : Suite) → suite_of num ≡ Some s → (key nonce aad : List ℕ) (n : ℕ) → Given num key nonce aad n → Line.Given s n nonce key aad
 given-as num s e key nonce aad n g = record {
   nonce_sized = g.usable.nonce-length;
   key_sized = g.usable.key-length ∙ key-named num s e;

@@ -1,6 +1,7 @@
 -- SPDX-License-Identifier: MIT
 -- Opening succeeds exactly when the frame is the RFC's encryption of some plaintext with the header that was received, and yields that
 -- plaintext. Assumes nothing.
+use Rattle.std.specs.Prelude.{Option}
 use mathlib.Core.Path.{◌≡◌, refl, sym, ◌∙◌, ap}
 use mathlib.Core.Bool.{Bool, true, false, not, false≢true}
 use mathlib.Core.List.{List, [], ◌∷◌, ◌++◌}
@@ -13,9 +14,8 @@ use borrow.Author.Tests.{le-leb, le-ltb, lt-ltb, ltb-true, ltb-false, eq-eqb}
 use Rattle.octets.specs.Octets.{Octets, pick}
 use Rattle.octets.proofs.Laws.{octets-append, octets-take, octets-drop}
 use Rattle.header.specs.Answers.{header_invalid, room_short, read_number, read_kid, read_ctr, read_length}
-use Rattle.header.specs.Header.{read_header}
-use Rattle.header.specs.declared.Reading.{Reading}
-use Rattle.header.specs.declared.Reading.TheVariants.{Header}
+use Rattle.header.specs.Header.{header_of, read_header}
+use Rattle.header.specs.declared.Header.{Header}
 use Rattle.header.proofs.Laws.{header_read}
 use Rattle.answers.specs.Answers.{store_invalid, kid_missing, role_refused, input_too_long, frame_short, tag_differs, already_opened, counter_too_old, ◌if◌, Outcome, first}
 use Rattle.store.specs.Cipher.{Cipher, Decrypted, plain, differs}
@@ -45,7 +45,7 @@ is_plain : (d : Decrypted) → is_differs d ≡ false → d ≡ plain (plain_of 
 is_plain (plain p) e = refl
 is_plain differs e = absurd (false≢true (sym e))
 
-open-number : (cipher : Cipher) (valid : Bool) (reading : Reading) (held : KeyRecord) (rs : List KeyRecord) (s metadata bytes room : List ℕ)
+open-number : (cipher : Cipher) (valid : Bool) (reading : Option Header) (held : KeyRecord) (rs : List KeyRecord) (s metadata bytes room : List ℕ)
     → (open_at cipher valid reading held rs s metadata bytes room).number ≡ first (causes_of_open cipher valid reading held metadata bytes room)
 unfolding open_at
 open-number cipher valid reading held rs s metadata bytes room = settled-number _ s room _ refl
@@ -53,12 +53,12 @@ open-number cipher valid reading held rs s metadata bytes room = settled-number 
 module _ (cipher : Cipher) (laws : Laws cipher) (s : List ℕ) (rs : List KeyRecord) (t : Stored s rs) where
   -- bytes with a header, whose KID is held for receiving
   module _ (metadata bytes room : List ℕ) (om : Octets metadata) (ob : Octets bytes) (kid ctr n : ℕ)
-      (reads : read_header bytes ≡ Header (record { 0 = kid }) (record { 0 = ctr }) n) (r : ReceivingKey) (w : Window) (found : get kid rs ≡ receiving r w) where
-    open-here : opening cipher s metadata bytes room ≡ open_at cipher true (Header (record { 0 = kid }) (record { 0 = ctr }) n) (receiving r w) rs s metadata bytes room
+      (reads : read_header bytes ≡ header_of (record { 0 = kid }) (record { 0 = ctr }) n) (r : ReceivingKey) (w : Window) (found : get kid rs ≡ receiving r w) where
+    open-here : opening cipher s metadata bytes room ≡ open_at cipher true (header_of (record { 0 = kid }) (record { 0 = ctr }) n) (receiving r w) rs s metadata bytes room
     open-here =
         open-on cipher s rs t metadata bytes room
-        ∙ ap (λ (h : Reading). open_at cipher true h (get (read_kid h) rs) rs s metadata bytes room) reads
-        ∙ ap (λ (x : KeyRecord). open_at cipher true (Header (record { 0 = kid }) (record { 0 = ctr }) n) x rs s metadata bytes room) found
+        ∙ ap (λ (h : Option Header). open_at cipher true h (get (read_kid h) rs) rs s metadata bytes room) reads
+        ∙ ap (λ (x : KeyRecord). open_at cipher true (header_of (record { 0 = kid }) (record { 0 = ctr }) n) x rs s metadata bytes room) found
 
     fit : Fit (receiving r w)
     fit = rw found at (get_fit kid rs t.table.fit)
@@ -112,7 +112,7 @@ module _ (cipher : Cipher) (laws : Laws cipher) (s : List ℕ) (rs : List KeyRec
       unfolding causes_of_open open_causes first plain_length decrypted
       answer-is h =
           ap (λ (o : Outcome). o.number) open-here
-          ∙ open-number cipher true (Header (record { 0 = kid }) (record { 0 = ctr }) n) (receiving r w) rs s metadata bytes room
+          ∙ open-number cipher true (header_of (record { 0 = kid }) (record { 0 = ctr }) n) (receiving r w) rs s metadata bytes room
           ∙ rw (le-ltb (length bytes - n) (tag_size r.suite) h, short-enough (length bytes - n - tag_size r.suite) (length metadata) pm mm, le-ltb (length room) (length bytes - n - tag_size r.suite) rm)
 
       -- a frame that has no tag has another answer
@@ -120,12 +120,12 @@ module _ (cipher : Cipher) (laws : Laws cipher) (s : List ℕ) (rs : List KeyRec
       unfolding causes_of_open open_causes first
       no-tag h =
           ap (λ (o : Outcome). o.number) open-here
-          ∙ open-number cipher true (Header (record { 0 = kid }) (record { 0 = ctr }) n) (receiving r w) rs s metadata bytes room
+          ∙ open-number cipher true (header_of (record { 0 = kid }) (record { 0 = ctr }) n) (receiving r w) rs s metadata bytes room
           ∙ rw (lt-ltb (length bytes - n) (tag_size r.suite) h)
 
       causes-pass : seen w ctr ≡ false → too_old w ctr ≡ false → (p : List ℕ) → tag_size r.suite ≤ length bytes - n
           → cipher.decrypt r.suite r.key (cipher.nonce r.salt ctr) (take n bytes ++ metadata) (drop n bytes) ≡ plain p
-          → Pass (causes_of_open cipher true (Header (record { 0 = kid }) (record { 0 = ctr }) n) (receiving r w) metadata bytes room)
+          → Pass (causes_of_open cipher true (header_of (record { 0 = kid }) (record { 0 = ctr }) n) (receiving r w) metadata bytes room)
       unfolding causes_of_open open_causes plain_length decrypted
       causes-pass new young p h e = (
         refl,
@@ -161,7 +161,7 @@ module _ (cipher : Cipher) (laws : Laws cipher) (s : List ℕ) (rs : List KeyRec
           × (is_differs (cipher.decrypt r.suite r.key (cipher.nonce r.salt ctr) (take n bytes ++ metadata) (drop n bytes)) ≡ false)
       unfolding open_at causes_of_open open_causes plain_length decrypted
       passed e =
-          let p = passes (causes_of_open cipher true (Header (record { 0 = kid }) (record { 0 = ctr }) n) (receiving r w) metadata bytes room) refl (sym (open-number cipher true (Header (record { 0 = kid }) (record { 0 = ctr }) n) (receiving r w) rs s metadata bytes room) ∙ sym (ap (λ (o : Outcome). o.number) open-here) ∙ e) in
+          let p = passes (causes_of_open cipher true (header_of (record { 0 = kid }) (record { 0 = ctr }) n) (receiving r w) metadata bytes room) refl (sym (open-number cipher true (header_of (record { 0 = kid }) (record { 0 = ctr }) n) (receiving r w) rs s metadata bytes room) ∙ sym (ap (λ (o : Outcome). o.number) open-here) ∙ e) in
           (ltb-false (length bytes - n) (tag_size r.suite) p.1.1.1.1.0, p.1.1.1.1.1.1.1.1.1.0)
 
 -- ---- a store that holds the key
@@ -284,7 +284,7 @@ module _ (cipher : Cipher) (laws : Laws cipher) (s metadata bytes room : List �
 -- ---- the list of causes
 
 -- written out, of what is lent
-pub open-causes-are : (cipher : Cipher) (valid : Bool) (reading : Reading) (held : KeyRecord) (metadata bytes room : List ℕ)
+pub open-causes-are : (cipher : Cipher) (valid : Bool) (reading : Option Header) (held : KeyRecord) (metadata bytes room : List ℕ)
     → causes_of_open cipher valid reading held metadata bytes room
     ≡ (store_invalid if not valid)
     ∷ (header_invalid if eqb (read_number reading) header_invalid)

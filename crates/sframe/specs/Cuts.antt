@@ -3,8 +3,7 @@
 use Rattle.std.specs.Prelude.{◌≡◌, List, [], ◌∷◌, ◌++◌, ◌↔◌, ℕ, ◌≤◌, length, take}
 use Rattle.octets.specs.Octets.{Octets}
 use Rattle.answers.specs.Answers.{done, Outcome}
-use Rattle.header.specs.Header.{read_header}
-use Rattle.header.specs.declared.Reading.TheVariants.{Header}
+use Rattle.header.specs.Header.{header_of, read_header}
 use Rattle.pieces.specs.Calls.{seal_piece, seal_end, check_piece, check_end}
 use Rattle.key_record.specs.Record.{ReceivingKey}
 use Rattle.key_record.specs.Suites.{tag_size}
@@ -57,5 +56,5 @@ checked_by state (c ∷ cs) = checked_by (check_piece state c).state cs
 pub record CheckBegun (s metadata bytes : List ℕ) (announced : ℕ) (state : List ℕ) (r : ReceivingKey) (ctr n : ℕ) : Type 0 where
   pub held : Holds s r
   pub bytes-octets : Octets bytes
-  pub header_is : read_header bytes ≡ Header (record { 0 = r.kid }) (record { 0 = ctr }) n
+  pub header_is : read_header bytes ≡ header_of (record { 0 = r.kid }) (record { 0 = ctr }) n
   pub begins : (check_begin sframe s metadata bytes announced state).number ≡ done

@@ -4,8 +4,7 @@
 use Rattle.std.specs.Prelude.{◌≡◌, Bool, true, false, List, [], ◌∷◌, ◌++◌, ◌↔◌, ℕ, ◌+◌, ◌-◌, ◌≤◌, eqb, length, get_or, take, drop}
 use Rattle.octets.specs.Octets.{Octets, pick}
 use Rattle.header.specs.Answers.{read_kid, read_ctr, done, read_number}
-use Rattle.header.specs.Header.{header, read_header}
-use Rattle.header.specs.declared.Reading.TheVariants.{Header}
+use Rattle.header.specs.Header.{header_of, header, read_header}
 use Rattle.answers.specs.Answers.{already_opened, counter_too_old, Outcome}
 use Rattle.store.specs.Cipher.{Cipher}
 use Rattle.key_record.specs.Record.{ReceivingKey, empty, receiving, holds}
@@ -93,7 +92,7 @@ module _ (cipher : Cipher) where
     pub held : Holds s r
     pub metadata-octets : Octets metadata
     pub bytes-octets : Octets bytes
-    pub header_is : read_header bytes ≡ Header (record { 0 = r.kid }) (record { 0 = ctr }) n
+    pub header_is : read_header bytes ≡ header_of (record { 0 = r.kid }) (record { 0 = ctr }) n
     pub plaintext-most : length bytes - n - tag_size r.suite ≤ max_plaintext
     pub metadata-most : length metadata ≤ max_metadata
     pub room-enough : length bytes - n - tag_size r.suite ≤ length room

@@ -22,23 +22,23 @@ ghost use Rattle.group.specs.Group.{context_in, index_in, epoch_in, given, pack_
 ghost use Rattle.change_epoch.specs.Epoch.{change_epoch};
 
 use answers::{DONE, HEADER_INVALID, ROOM_SHORT};
-use header::{Ctr, Kid, Reading, Written};
+use header::{Ctr, Header, Kid};
 use key_record::Role;
 
 // Where a caller that names no place is taken to believe the record: at the front of the store.
 const FRONT: usize = 0;
 
 // Hands over what writing a header answers.
-fn hand_over(written: Written, length: &mut usize) -> u32
+fn hand_over(written: Option<usize>, length: &mut usize) -> u32
     ensures value { result ≡ written_number written }
     ensures length_after { length.new ≡ written_length written }
 {
     match written {
-        Written::Length(n) => {
+        Some(n) => {
             *length = n;
             DONE
         }
-        Written::NoRoom => {
+        None => {
             *length = 0;
             ROOM_SHORT
         }
@@ -84,13 +84,19 @@ pub extern "C" fn sframe_read_header(
     ensures length_after { length.new ≡ read_length (read_header bytes.now) }
 {
     match header::read_header(bytes) {
-        Reading::Header(k, c, n) => {
+        Some(
+            Header {
+                kid: k,
+                ctr: c,
+                length: n,
+            },
+        ) => {
             *kid = k.0;
             *ctr = c.0;
             *length = n;
             DONE
         }
-        Reading::Invalid => {
+        None => {
             *kid = 0;
             *ctr = 0;
             *length = 0;

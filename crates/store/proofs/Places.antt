@@ -1,5 +1,6 @@
 -- SPDX-License-Identifier: MIT
 -- Record i of a sound store: its bytes, and the store once it has changed. Assumes nothing.
+use Rattle.std.specs.Prelude.{Option, Some, None}
 use mathlib.Core.Path.{◌≡◌, refl, sym, ◌∙◌, ap}
 use mathlib.Core.Bool.{Bool, true, false, not, false≢true}
 use mathlib.Core.List.{List, [], ◌∷◌, ◌++◌}
@@ -22,8 +23,6 @@ use Rattle.suites.specs.declared.sizes.Suite.{Suite}
 use Rattle.key_record.specs.Inner.Rows.{fresh}
 use Rattle.key_record.specs.declared.Role.{Role}
 use Rattle.key_record.specs.declared.Role.TheVariants.{Sending, Receiving}
-use Rattle.store.specs.declared.Place.{Place}
-use Rattle.store.specs.declared.Place.TheVariants.{At, Nowhere}
 use Rattle.store.proofs.Stores.{length-right, Stored, sound-stored, stored-length, encode-at, row-changed}
 use Rattle.store.proofs.Tables.{holds-empty, get_at}
 use Rattle.store.proofs.Order.{ordered-apart, rank-missing, rank_room, insert-at}
@@ -109,8 +108,8 @@ module _ (s : List ℕ) (i : ℕ) (w : Within s i) where
 
 -- ---- record i, once it is found
 
-pub found_within : (s : List ℕ) (kid i : ℕ) (p : Place) → sound s ≡ true → FoundIn p kid (records s) → p ≡ At i → Within s i
-found_within s kid i p e f w = let g : FoundIn (At i) kid (records s) = rw w at f in (e, g.0)
+pub found_within : (s : List ℕ) (kid i : ℕ) (p : Option ℕ) → sound s ≡ true → FoundIn p kid (records s) → p ≡ Some i → Within s i
+found_within s kid i p e f w = let g : FoundIn (Some i) kid (records s) = rw w at f in (e, g.0)
 
 -- ---- a place, which may be any number
 
@@ -128,7 +127,7 @@ module _ (s : List ℕ) (kid place : ℕ) where
   place-past h = sym (ap (holds kid) (past-last (records s) place (omega (arith, records-count s))) ∙ holds-empty kid)
 
   -- a record that stands there is the one that is found
-  pub place_found : (b : Bool) → sound s ≡ true → b ≡ holds kid (get_or (records s) place empty) → b ≡ true → FoundIn (At place) kid (records s)
+  pub place_found : (b : Bool) → sound s ≡ true → b ≡ holds kid (get_or (records s) place empty) → b ≡ true → FoundIn (Some place) kid (records s)
   place_found b e q t =
       let h : holds kid (get_or (records s) place empty) ≡ true = sym q ∙ t in
       (inside h, get_at kid (records s) place (sound-apart s e) h, h)
@@ -141,7 +140,7 @@ module _ (s : List ℕ) (kid place : ℕ) where
           by (no' t) = absurd (false≢true (sym (holds-empty kid) ∙ ap (holds kid) (sym (past-last (records s) place (ltb-false place (length (records s)) t))) ∙ h))
 
   -- and where none stands at the place of a Key ID, there is none
-  pub place-nowhere : (b : Bool) → sound s ≡ true → place ≡ rank kid (records s) → b ≡ holds kid (get_or (records s) place empty) → b ≡ false → FoundIn Nowhere kid (records s)
+  pub place-nowhere : (b : Bool) → sound s ≡ true → place ≡ rank kid (records s) → b ≡ holds kid (get_or (records s) place empty) → b ≡ false → FoundIn None kid (records s)
   place-nowhere b e p q t = rank-missing kid (records s) (sound-ordered s e) (ap (λ (k : ℕ). holds kid (get_or (records s) k empty)) (sym p) ∙ sym q ∙ t)
 
 -- the place of a Key ID that is inserted

@@ -18,13 +18,6 @@ use suites::sizes::Suite;
 
 pub const MAX_RECORDS: usize = 1024;
 
-// Where a record stands: the number of the record, or nowhere.
-#[derive(Clone, Copy)]
-pub enum Place {
-    At(usize),
-    Nowhere,
-}
-
 // Whether a length is that of a store.
 pub fn length_right(n: usize) -> bool
     ensures { result ≡ length_right n }
@@ -120,24 +113,24 @@ pub fn rank(store: &[u8], kid: Kid) -> usize
 }
 
 // Where the record stands that holds a KID.
-pub fn find(store: &[u8], kid: Kid) -> Place
+pub fn find(store: &[u8], kid: Kid) -> Option<usize>
     requires { sound store.now ≡ true }
     ensures { FoundIn result kid.0 (records store.now) }
 {
     let i = rank(store, kid);
     if stands_at(store, i, kid) {
-        return Place::At(i);
+        return Some(i);
     }
-    Place::Nowhere
+    None
 }
 
 // The same, with the place where the caller believes the record to stand: it is tried first, and changes no answer.
-pub fn find_near(store: &[u8], kid: Kid, place: usize) -> Place
+pub fn find_near(store: &[u8], kid: Kid, place: usize) -> Option<usize>
     requires { sound store.now ≡ true }
     ensures { FoundIn result kid.0 (records store.now) }
 {
     if stands_at(store, place, kid) {
-        return Place::At(place);
+        return Some(place);
     }
     find(store, kid)
 }

@@ -1,5 +1,6 @@
 -- SPDX-License-Identifier: MIT
 -- What Make and Remove answer, cause by cause, over plain variables. Assumes nothing.
+use Rattle.std.specs.Prelude.{Option, Some, None}
 use mathlib.Core.Path.{◌≡◌, sym, ◌∙◌, ap}
 use mathlib.Core.Bool.{Bool, true, false, not, false≢true}
 use mathlib.Core.List.{List, []}
@@ -17,8 +18,6 @@ use Rattle.store.specs.Inner.Places.{closed, FoundIn}
 use Rattle.key_record.specs.Inner.Rows.{kind_of, kept}
 use Rattle.key_record.specs.declared.Kind.{Kind}
 use Rattle.key_record.specs.declared.Kind.TheVariants.{Empty, Sender, Receiver, Retired}
-use Rattle.store.specs.declared.Place.{Place}
-use Rattle.store.specs.declared.Place.TheVariants.{At, Nowhere}
 use Rattle.key_record.proofs.KindLaws.{kind-sends}
 use Rattle.store.proofs.Stores.{sound-stored, kids-apart}
 use Rattle.store.proofs.Tables.{put-at}
@@ -48,15 +47,15 @@ module _ (s : List ℕ) (kid : ℕ) (is-sound : sound s ≡ true) where
       ap (λ (v : Bool). remove_at v (records s) s kid) is-sound
       ∙ ap (λ (h : KeyRecord). settled (first (remove_causes true h)) s [] (stored (encode_all (removed h kid (records s))))) g
 
-  pub remove-missing : (p : Place) → FoundIn p kid (records s) → p ≡ Nowhere → (kid_missing ≡ (remove s kid).number) × (s ≡ (remove s kid).store)
+  pub remove-missing : (p : Option ℕ) → FoundIn p kid (records s) → p ≡ None → (kid_missing ≡ (remove s kid).number) × (s ≡ (remove s kid).store)
   unfolding remove_causes first settled
   remove-missing p f w =
       let g : get kid (records s) ≡ empty = rw w at f in
       let q = outcome-of empty g in
       (sym (ap (λ (x : Outcome). x.number) q), sym (ap (λ (x : Outcome). x.store) q))
 
-  module _ (o : Octets s) (p : Place) (f : FoundIn p kid (records s)) (i : ℕ) (w : p ≡ At i) (k : Kind) (is : k ≡ kind_of (get_or (records s) i empty)) where
-    found : FoundIn (At i) kid (records s)
+  module _ (o : Octets s) (p : Option ℕ) (f : FoundIn p kid (records s)) (i : ℕ) (w : p ≡ Some i) (k : Kind) (is : k ≡ kind_of (get_or (records s) i empty)) where
+    found : FoundIn (Some i) kid (records s)
     found = rw w at f
 
     apart-kids : apart (records s) ≡ true

@@ -3,76 +3,57 @@
 #![tactic(auto)]
 
 ghost use Rattle.std.specs.Prelude.{◌≡◌};
+ghost use Rattle.answers.specs.Refusals.{number_of, written_of};
 ghost use Rattle.store_calls.specs.Calls.{make, remove, find, found};
 
-use answers::{DONE, KID_MISSING, ROLE_REFUSED, STORE_INVALID};
+use answers::Refusal;
 use header::Kid;
 use key_record::{Kind, row};
-use store::Place;
-
-// What a search by a caller answers: its number, and the place.
-#[derive(Clone, Copy)]
-pub struct Located {
-    pub number: u32,
-    pub place: usize,
-}
 
 // Makes a store: zeros throughout.
-pub fn make(store: &mut [u8]) -> u32
-    ensures value { result ≡ (make store.old).number }
+pub fn make(store: &mut [u8]) -> Result<(), Refusal>
+    ensures value { number_of result ≡ (make store.old).number }
     ensures store_after { store.new ≡ (make store.old).store }
 {
     if !store::length_right(store.len()) {
-        return STORE_INVALID;
+        return Err(Refusal::StoreInvalid);
     }
     octets::clear(store);
-    DONE
+    Ok(())
 }
 
 // Removes the key of a KID. Any number may be given for the place where its record is believed to stand.
-pub fn remove(store: &mut [u8], kid: Kid, place: usize) -> u32
-    ensures value { result ≡ (remove store.old kid.0).number }
+pub fn remove(store: &mut [u8], kid: Kid, place: usize) -> Result<(), Refusal>
+    ensures value { number_of result ≡ (remove store.old kid.0).number }
     ensures store_after { store.new ≡ (remove store.old kid.0).store }
 {
     if !store::is_sound(store) {
-        return STORE_INVALID;
+        return Err(Refusal::StoreInvalid);
     }
-    let Place::At(i) = store::find_near(store, kid, place) else {
-        return KID_MISSING;
+    let Some(i) = store::find_near(store, kid, place) else {
+        return Err(Refusal::KidMissing);
     };
     let kind = row::kind_of(store::row_at(store, i));
     match kind {
         Kind::Sender => {
             store::retire_at(store, i);
-            DONE
+            Ok(())
         }
         Kind::Receiver => {
             store::close_at(store, i);
-            DONE
+            Ok(())
         }
-        Kind::Retired => ROLE_REFUSED,
-        Kind::Empty => KID_MISSING,
+        Kind::Retired => Err(Refusal::RoleRefused),
+        Kind::Empty => Err(Refusal::KidMissing),
     }
 }
 
 // Finds the place of the record that holds a KID, for a caller to hand in later.
-pub fn locate(store: &[u8], kid: Kid) -> Located
-    ensures { (result.number ≡ (find store.now kid.0).number) × (result.place ≡ found store.now kid.0) }
+pub fn locate(store: &[u8], kid: Kid) -> Result<usize, Refusal>
+    ensures { (number_of result ≡ (find store.now kid.0).number) × (written_of result ≡ found store.now kid.0) }
 {
     if !store::is_sound(store) {
-        return Located {
-            number: STORE_INVALID,
-            place: 0,
-        };
+        return Err(Refusal::StoreInvalid);
     }
-    let Place::At(i) = store::find(store, kid) else {
-        return Located {
-            number: KID_MISSING,
-            place: 0,
-        };
-    };
-    Located {
-        number: DONE,
-        place: i,
-    }
+    store::find(store, kid).ok_or(Refusal::KidMissing)
 }

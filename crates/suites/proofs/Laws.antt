@@ -1,5 +1,6 @@
 -- SPDX-License-Identifier: MIT
 -- Laws of the suites, once over all five, for this crate's proofs and for those above it. Assumes nothing.
+use Rattle.std.specs.Prelude.{Some, None}
 use mathlib.Core.Path.{◌≡◌, refl, sym, ◌∙◌, ap}
 use mathlib.Core.List.{List}
 use Prim.Native.Nat.{ℕ, zero, suc, ◌^◌, ◌<◌, ◌≤◌}
@@ -16,7 +17,6 @@ use Rattle.sha2_common.specs.Sizes.{initial256, initial512}
 use Rattle.suites.specs.declared.sizes.Suite.{Suite}
 use Rattle.suites.specs.declared.sizes.Suite.TheVariants.{Ctr80, Ctr64, Ctr32, Gcm128, Gcm256}
 use Rattle.suites.specs.declared.sizes.Mode.TheVariants.{CtrHmac, Gcm}
-use Rattle.suites.specs.declared.sizes.Found.TheVariants.{Known, Unknown}
 use Rattle.suites.specs.Suites.{table, suite_of, number_of, Nh, Nk, Nka, Nn, Nt, hash_of, mode_of}
 use Rattle.suites.specs.Derivation.{secret_key, secret_salt, derived, sframe_key, sframe_salt, nonce}
 use Rattle.hmac.specs.Hkdf.{hash_len, expand}
@@ -32,7 +32,7 @@ number-byte Gcm128 = omega arith
 number-byte Gcm256 = omega arith
 
 -- a suite's number finds it
-pub number-known : (s : Suite) → suite_of (number_of s) ≡ Known s
+pub number-known : (s : Suite) → suite_of (number_of s) ≡ Some s
 unfolding suite_of
 number-known Ctr80 = refl
 number-known Ctr64 = refl
@@ -40,14 +40,14 @@ number-known Ctr32 = refl
 number-known Gcm128 = refl
 number-known Gcm256 = refl
 
-number-high : (n : ℕ) → suite_of (suc (suc (suc (suc (suc (suc n)))))) ≡ Unknown
+number-high : (n : ℕ) → suite_of (suc (suc (suc (suc (suc (suc n)))))) ≡ None
 unfolding suite_of
 number-high n =
     let m = suc (suc (suc (suc (suc (suc n))))) in
     rw (ne_eqb m 1 (λ z. omega arith), ne_eqb m 2 (λ z. omega arith), ne_eqb m 3 (λ z. omega arith), ne_eqb m 4 (λ z. omega arith), ne_eqb m 5 (λ z. omega arith))
 
 -- and no other number does
-pub number_is : (n : ℕ) (s : Suite) → suite_of n ≡ Known s → n ≡ number_of s
+pub number_is : (n : ℕ) (s : Suite) → suite_of n ≡ Some s → n ≡ number_of s
 unfolding suite_of
 number_is zero s e = let z : ◌≡◌ {A = ℕ} 0 1 = cc in absurd (omega arith)
 number_is (suc zero) s e = let q : Ctr80 ≡ s = cc in ap number_of q
@@ -56,7 +56,7 @@ number_is (suc (suc (suc zero))) s e = let q : Ctr32 ≡ s = cc in ap number_of 
 number_is (suc (suc (suc (suc zero)))) s e = let q : Gcm128 ≡ s = cc in ap number_of q
 number_is (suc (suc (suc (suc (suc zero))))) s e = let q : Gcm256 ≡ s = cc in ap number_of q
 number_is (suc (suc (suc (suc (suc (suc n)))))) s e =
-    let u : Unknown ≡ Known s = sym (number-high n) ∙ e in
+    let u : None ≡ Some s = sym (number-high n) ∙ e in
     let z : ◌≡◌ {A = ℕ} 0 1 = cc in
     absurd (omega arith)
 

@@ -1,6 +1,6 @@
 -- SPDX-License-Identifier: MIT
 -- The cipher suites of RFC 9605, section 4.5, as rows of its Table 1, by their registered numbers (8.1). Assumes nothing.
-use Rattle.std.specs.Prelude.{List, [], ◌∷◌, ℕ, eqb}
+use Rattle.std.specs.Prelude.{Option, Some, None, List, [], ◌∷◌, ℕ, eqb}
 use Rattle.octets.specs.Octets.{pick}
 use Rattle.sha2_common.specs.Sha2.{Params}
 use Rattle.sha2_common.specs.Sizes.{sha256, sha512}
@@ -10,8 +10,6 @@ use Rattle.suites.specs.declared.sizes.Mode.{Mode}
 use Rattle.suites.specs.declared.sizes.Mode.TheVariants.{CtrHmac, Gcm}
 use Rattle.suites.specs.declared.sizes.Hash.{Hash}
 use Rattle.suites.specs.declared.sizes.Hash.TheVariants.{Sha256, Sha512}
-use Rattle.suites.specs.declared.sizes.Found.{Found}
-use Rattle.suites.specs.declared.sizes.Found.TheVariants.{Known, Unknown}
 
 -- A row of Table 1. The mode is AES-CTR with HMAC (4.5.1) or AES-GCM (4.5 with SP 800-38D); the hash is that of the key
 -- derivation. The sizes are in bytes: Nh of the hash, Nka of the part of the key that encrypts where HMAC has a key of its
@@ -87,9 +85,9 @@ abbrev pub all : List Suite
 all = Ctr80 ∷ Ctr64 ∷ Ctr32 ∷ Gcm128 ∷ Gcm256 ∷ []
 
 -- The first of some suites that has the number.
-abbrev pub among : ℕ → List Suite → Found
-among n [] = Unknown
-among n (s ∷ l) = pick (eqb n (number_of s)) (Known s) (among n l)
+abbrev pub among : ℕ → List Suite → Option Suite
+among n [] = None
+among n (s ∷ l) = pick (eqb n (number_of s)) (Some s) (among n l)
 
-unfoldable pub suite_of : ℕ → Found
+unfoldable pub suite_of : ℕ → Option Suite
 suite_of n = among n all

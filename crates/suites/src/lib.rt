@@ -5,4 +5,4 @@
 pub mod derivation;
 pub mod sizes;
 
-pub use sizes::{Found, Suite};
+pub use sizes::Suite;

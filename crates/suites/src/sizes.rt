@@ -114,24 +114,17 @@ pub enum Hash {
     Sha512,
 }
 
-// The suite of a number, or that it is none's.
-#[derive(Clone, Copy)]
-pub enum Found {
-    Known(Suite),
-    Unknown,
-}
-
 // The suite that has a number.
-pub fn find(number: u64) -> Found
+pub fn find(number: u64) -> Option<Suite>
     ensures { result ≡ suite_of number }
 {
     match number {
-        Aes128CtrHmacSha256Tag80::NUMBER => Found::Known(Suite::Ctr80),
-        Aes128CtrHmacSha256Tag64::NUMBER => Found::Known(Suite::Ctr64),
-        Aes128CtrHmacSha256Tag32::NUMBER => Found::Known(Suite::Ctr32),
-        Aes128GcmSha256::NUMBER => Found::Known(Suite::Gcm128),
-        Aes256GcmSha512::NUMBER => Found::Known(Suite::Gcm256),
-        _ => Found::Unknown,
+        Aes128CtrHmacSha256Tag80::NUMBER => Some(Suite::Ctr80),
+        Aes128CtrHmacSha256Tag64::NUMBER => Some(Suite::Ctr64),
+        Aes128CtrHmacSha256Tag32::NUMBER => Some(Suite::Ctr32),
+        Aes128GcmSha256::NUMBER => Some(Suite::Gcm128),
+        Aes256GcmSha512::NUMBER => Some(Suite::Gcm256),
+        _ => None,
     }
 }
 

@@ -1,22 +1,20 @@
 -- SPDX-License-Identifier: MIT
 -- A record written is read back, and what obeys the layout is a record in range. Assumes nothing.
-use mathlib.Core.Path.{◌≡◌, refl, sym, ◌∙◌, ap, ap₂}
+use Rattle.std.specs.Prelude.{Option, Some, None}
+use mathlib.Core.Path.{◌≡◌, refl, sym, ◌∙◌, ap}
 use mathlib.Core.Bool.{Bool, true, false, false≢true}
 use mathlib.Core.List.{List, [], ◌∷◌, ◌++◌, append_assoc}
 use Prim.Native.Nat.{ℕ, zero, suc, ◌+◌, ◌-◌, ◌^◌, ◌<◌, ◌≤◌}
 use native.Mathlib.Nat.{mod-eq_of_lt}
-use native.Mathlib.Numerals.{add-one}
 use native.Mathlib.Omega.{arith}
 use lib.Dec.{leb, eqb}
 use lib.ListN.{length, get_or, take, drop, replicate, length-append, length-take, length-drop, length-replicate}
 use lib.Seq.{drop_at, take_at, drop-drop}
-use borrow.Author.Tests.{leb-true, leb-false, le-leb, lt-leb, ne_eqb, eq-eqb}
+use borrow.Author.Tests.{leb-true, leb-false, le-leb, lt-leb, ne_eqb}
 use Rattle.octets.specs.Octets.{Octets, number, bytes, same, pick, both}
 use Rattle.octets.proofs.Laws.{bytes-length, bytes-octets, number-bytes, number_append, number_lt, octets-append, octets-take, octets-drop, octets-replicate, same_refl, same-eq}
 use Rattle.suites.specs.Suites.{suite_of, number_of, Nk, Nn}
 use Rattle.suites.specs.declared.sizes.Suite.{Suite}
-use Rattle.suites.specs.declared.sizes.Found.{Found}
-use Rattle.suites.specs.declared.sizes.Found.TheVariants.{Known, Unknown}
 use Rattle.suites.proofs.Laws.{Nk-most, number-known, number-byte}
 use Rattle.secure_objects.specs.Objects.{name_most, ceiling}
 use Rattle.answers.proofs.Basics.{Two, yes', no', two, both_true, both-and}
@@ -156,7 +154,7 @@ pub record Read (l : List ℕ) : Type 0 where
   pub suite : Suite
   pub marked : is_mark (get_or l mark_at 0) ≡ true
   pub name-inside : number 2 (drop length_at l) ≤ name_most
-  pub suited : suite_of (get_or l suite_at 0) ≡ Known suite
+  pub suited : suite_of (get_or l suite_at 0) ≡ Some suite
   pub is : decode l ≡ track (decode_as suite l)
 
 pub data View (l : List ℕ) : Type 0 where
@@ -168,7 +166,7 @@ both_false true b e = e
 both_false false b e = refl
 
 module _ (l : List ℕ) where
-  pub read-track : (s : Suite) → is_mark (get_or l mark_at 0) ≡ true → number 2 (drop length_at l) ≤ name_most → suite_of (get_or l suite_at 0) ≡ Known s → decode l ≡ track (decode_as s l)
+  pub read-track : (s : Suite) → is_mark (get_or l mark_at 0) ≡ true → number 2 (drop length_at l) ≤ name_most → suite_of (get_or l suite_at 0) ≡ Some s → decode l ≡ track (decode_as s l)
   unfolding decode decode_in
   read-track s m n k = rw (m, le-leb (number 2 (drop length_at l)) name_most n, k)
 
@@ -180,7 +178,7 @@ module _ (l : List ℕ) where
   unfolding decode
   read-long n = rw (both_false (is_mark (get_or l mark_at 0)) (leb (number 2 (drop length_at l)) name_most) (lt-leb (number 2 (drop length_at l)) name_most n))
 
-  pub read-unsuited : suite_of (get_or l suite_at 0) ≡ Unknown → decode l ≡ empty
+  pub read-unsuited : suite_of (get_or l suite_at 0) ≡ None → decode l ≡ empty
   unfolding decode decode_in
   read-unsuited k = by (both (is_mark (get_or l mark_at 0)) (leb (number 2 (drop length_at l)) name_most))
     where
@@ -191,11 +189,11 @@ module _ (l : List ℕ) where
   pub view : View l
   view = by (two (is_mark (get_or l mark_at 0))) (two (leb (number 2 (drop length_at l)) name_most)) (suite_of (get_or l suite_at 0)) refl
     where
-      by : Two (is_mark (get_or l mark_at 0)) → Two (leb (number 2 (drop length_at l)) name_most) → (f : Found) → suite_of (get_or l suite_at 0) ≡ f → View l
+      by : Two (is_mark (get_or l mark_at 0)) → Two (leb (number 2 (drop length_at l)) name_most) → (f : Option Suite) → suite_of (get_or l suite_at 0) ≡ f → View l
       by (no' m) n f k = nothing (read-unmarked m)
       by (yes' m) (no' n) f k = nothing (read-long (leb-false (number 2 (drop length_at l)) name_most n))
-      by (yes' m) (yes' n) Unknown k = nothing (read-unsuited k)
-      by (yes' m) (yes' n) (Known s) k =
+      by (yes' m) (yes' n) None k = nothing (read-unsuited k)
+      by (yes' m) (yes' n) (Some s) k =
           let h = leb-true (number 2 (drop length_at l)) name_most n in
           something (record { suite = s; marked = m; name-inside = h; suited = k; is = read-track s m h k })
 
@@ -255,7 +253,7 @@ decode-encode (track t) f = read-track l t.suite marked inside suited ∙ ap tra
     inside : number 2 (drop length_at l) ≤ name_most
     inside = rw p.length-is f.name-most
 
-    suited : suite_of (get_or l suite_at 0) ≡ Known t.suite
+    suited : suite_of (get_or l suite_at 0) ≡ Some t.suite
     suited = ap suite_of p.suite-is ∙ number-known t.suite
 
     name-is : take (number 2 (drop length_at l)) (drop name_at l) ≡ t.id.name

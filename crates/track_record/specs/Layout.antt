@@ -1,12 +1,10 @@
 -- SPDX-License-Identifier: MIT
 -- The layout of docs/TRACKS.md: a record's form in bytes, and when bytes obey it. Only this file knows where a field stands.
 -- Assumes nothing.
-use Rattle.std.specs.Prelude.{Bool, true, List, [], ◌∷◌, ◌++◌, ℕ, ◌+◌, ◌-◌, leb, eqb, length, get_or, take, drop, replicate}
+use Rattle.std.specs.Prelude.{Option, Some, None, Bool, true, List, [], ◌∷◌, ◌++◌, ℕ, ◌+◌, ◌-◌, leb, eqb, length, get_or, take, drop, replicate}
 use Rattle.octets.specs.Octets.{number, bytes, same, pick, both}
 use Rattle.suites.specs.Suites.{suite_of, number_of, Nk, Nn}
 use Rattle.suites.specs.declared.sizes.Suite.{Suite}
-use Rattle.suites.specs.declared.sizes.Found.{Found}
-use Rattle.suites.specs.declared.sizes.Found.TheVariants.{Known, Unknown}
 use Rattle.secure_objects.specs.Objects.{name_most}
 use Rattle.track_record.specs.Record.{Track, TrackRecord, empty, track}
 use Rattle.track_record.specs.declared.Kind.{Kind}
@@ -101,9 +99,9 @@ decode_as s l = record {
 }
 
 -- A record's bytes as a record: mark, suite and the name's length have to be ones that there are, else they count as empty.
-unfoldable pub decode_in : Found → List ℕ → TrackRecord
-decode_in (Known s) l = track (decode_as s l)
-decode_in Unknown l = empty
+unfoldable pub decode_in : Option Suite → List ℕ → TrackRecord
+decode_in (Some s) l = track (decode_as s l)
+decode_in None l = empty
 
 unfoldable pub decode : List ℕ → TrackRecord
 decode l = pick (both (is_mark (get_or l mark_at 0)) (leb (number 2 (drop length_at l)) name_most)) (decode_in (suite_of (get_or l suite_at 0)) l) empty

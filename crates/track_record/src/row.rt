@@ -1,20 +1,19 @@
 // SPDX-License-Identifier: MIT
 // One record's bytes, read and written as the record that they are.
-ghost use Rattle.std.specs.Prelude.{◌≡◌, true, false, ◌+◌, ◌≤◌, ◌<◌, ltb, length, replicate};
+ghost use Rattle.std.specs.Prelude.{◌≡◌, Some, true, false, ◌+◌, ◌≤◌, ◌<◌, ltb, length, replicate};
 ghost use Rattle.answers.specs.Limits.{base_key_most};
 ghost use Rattle.suites.specs.Suites.{Nk, Nn};
-ghost use Rattle.suites.specs.declared.sizes.Found.TheVariants.{Known};
 ghost use Rattle.secure_objects.specs.Objects.{name_most, object_ceiling, counter};
 ghost use Rattle.track_record.specs.Layout.{record_size, mark_of, kind_of, encode, decode};
 ghost use Rattle.track_record.specs.Record.{empty, is_empty, is_sending, track_id, holds, floor_of, salt_of, key_of, kind_for, fresh, advanced, retired};
 ghost use Rattle.track_record.specs.Inner.Rows.{Row, held_of, suite_in, start_row, with_pair, id_of};
 
 use crate::{
-    FLAG, Held, KEY, KEY_ID, Kind, MARK, NAME, NAME_LENGTH, PAIR_GROUP, PAIR_OBJECT, RECEIVER,
-    RETIRED, Role, SALT, SENDER, SUITE,
+    FLAG, KEY, KEY_ID, Kind, MARK, NAME, NAME_LENGTH, PAIR_GROUP, PAIR_OBJECT, RECEIVER, RETIRED,
+    Role, SALT, SENDER, SUITE,
 };
 use secure_objects::{GroupId, KeyId, MAX_NAME, ObjectId, derivation};
-use suites::{Found, Suite};
+use suites::Suite;
 
 // What a mark stands for.
 fn kind_of(mark: u8) -> Kind
@@ -50,25 +49,23 @@ fn kind_for(role: Role) -> Kind
     }
 }
 
-// What a record holds.
-pub fn held_in(row: &[u8]) -> Held
+// What the track is for that a record holds, and its suite; none in an empty one.
+pub fn held_in(row: &[u8]) -> Option<(Kind, Suite)>
     requires { length row.now ≡ record_size }
     ensures { result ≡ held_of (decode row.now) }
 {
     let mark = row[MARK];
     if mark < SENDER {
-        return Held::Nothing;
+        return None;
     }
     if RETIRED < mark {
-        return Held::Nothing;
+        return None;
     }
     if (MAX_NAME as u64) < octets::read_be(&row[NAME_LENGTH..], 2) {
-        return Held::Nothing;
+        return None;
     }
-    let Found::Known(suite) = suites::sizes::find(row[SUITE] as u64) else {
-        return Held::Nothing;
-    };
-    Held::Track(kind_of(mark), suite)
+    let suite = suites::sizes::find(row[SUITE] as u64)?;
+    Some((kind_of(mark), suite))
 }
 
 // Whether a record is empty.
@@ -76,10 +73,7 @@ pub fn is_empty(row: &[u8]) -> bool
     requires { length row.now ≡ record_size }
     ensures { result ≡ is_empty (decode row.now) }
 {
-    let Held::Track(_, _) = held_in(row) else {
-        return true;
-    };
-    false
+    held_in(row).is_none()
 }
 
 // The Key ID of a record that is not empty.
@@ -139,7 +133,7 @@ pub fn salt_of(row: &[u8]) -> &[u8]
 
 // The key of a record of that suite.
 pub fn key_of(row: &[u8], suite: Suite) -> &[u8]
-    requires { (length row.now ≡ record_size) × (suite_in (decode row.now) ≡ Known suite) }
+    requires { (length row.now ≡ record_size) × (suite_in (decode row.now) ≡ Some suite) }
     ensures { (result.now ≡ key_of (decode row.now)) × (length result.now ≡ Nk suite) }
 {
     let end = KEY + suite.key_size();

@@ -1,7 +1,7 @@
 -- SPDX-License-Identifier: MIT
 -- What making a track store and removing a track do to the table. Assumes nothing.
 use mathlib.Core.Path.{◌≡◌, refl, sym, ◌∙◌, ap, ap₂}
-use mathlib.Core.Bool.{Bool, true, false, not, false≢true}
+use mathlib.Core.Bool.{Bool, true, false, not}
 use mathlib.Core.List.{List, [], ◌∷◌, ◌++◌}
 use Prim.Native.Nat.{ℕ, zero, suc, ◌+◌, ◌*◌, ◌/◌}
 use native.Mathlib.Omega.{arith}
@@ -10,12 +10,12 @@ use borrow.Author.Tests.{not-false}
 use Rattle.answers.specs.Answers.{store_invalid, ◌if◌, Outcome}
 use Rattle.answers.proofs.Basics.{Settled, success, refusal, settle}
 use Rattle.track_record.specs.Layout.{record_size, encode}
-use Rattle.track_record.specs.Record.{TrackId, TrackRecord, empty, is_empty, retired, holds}
+use Rattle.track_record.specs.Record.{TrackId, TrackRecord, empty, is_empty, retired}
 use Rattle.tracks.specs.Calls.{stored, make, remove_causes, remove_at, remove}
 use Rattle.tracks.specs.Tracks.{length_right, encode_all}
 use Rattle.tracks.specs.Table.{get, put, apart, alone}
 use Rattle.track_record.proofs.Records.{holds-empty, retired-holds, retired-fit}
-use Rattle.tracks.proofs.Stores.{AllFit, Table, length-right, Stored, stored-sound, stored-records, Change, put-change, get_fit}
+use Rattle.tracks.proofs.Stores.{AllFit, length-right, Stored, stored-sound, stored-records, Change, put-change, get_fit}
 use Rattle.tracks.proofs.Tables.{get_holds, get-there}
 
 -- ---- Make

@@ -1,9 +1,10 @@
 -- SPDX-License-Identifier: MIT
 -- Record i of a sound store: its bytes, and the store once it has changed. Assumes nothing.
+use Rattle.std.specs.Prelude.{Option, Some}
 use mathlib.Core.Path.{◌≡◌, sym, ◌∙◌, ap}
 use mathlib.Core.Bool.{Bool, true, false, not}
 use mathlib.Core.List.{List}
-use Prim.Native.Nat.{ℕ, zero, suc, ◌+◌, ◌*◌, ◌/◌, ◌%◌, ◌-◌, ◌<◌, ◌≤◌}
+use Prim.Native.Nat.{ℕ, zero, suc, ◌+◌, ◌*◌, ◌/◌, ◌-◌, ◌<◌, ◌≤◌}
 use native.Mathlib.Omega.{arith}
 use lib.ListN.{length, get_or, set, take, drop, length-take, length-drop}
 use lib.Seq.{drop-drop}
@@ -12,11 +13,9 @@ use Rattle.octets.specs.Octets.{Octets, both}
 use Rattle.answers.proofs.Basics.{both_true, told-true}
 use Rattle.track_record.specs.Layout.{record_size, encode, decode, obeys}
 use Rattle.track_record.specs.Record.{TrackId, TrackRecord, empty}
-use Rattle.tracks.specs.Tracks.{length_right, encode_all, decode_all, all_obey, records, sound}
+use Rattle.tracks.specs.Tracks.{length_right, encode_all, all_obey, records, sound}
 use Rattle.tracks.specs.Table.{apart}
 use Rattle.tracks.specs.Inner.Places.{Whole, Within, RowOf, FoundIn, FreeIn}
-use Rattle.tracks.specs.declared.Place.{Place}
-use Rattle.tracks.specs.declared.Place.TheVariants.{At}
 use Rattle.tracks.proofs.Stores.{Stored, sound-stored, stored-length, encode-at, row-changed}
 use Rattle.tracks.proofs.Walk.{decode-all-length, decode-at}
 
@@ -80,8 +79,8 @@ module _ (s : List ℕ) (i : ℕ) (w : Within s i) where
 
 -- ---- record i, once it is found
 
-pub found_within : (s : List ℕ) (id : TrackId) (i : ℕ) (p : Place) → sound s ≡ true → FoundIn p id (records s) → p ≡ At i → Within s i
-found_within s id i p e f w = let g : FoundIn (At i) id (records s) = rw w at f in (e, g.0)
+pub found_within : (s : List ℕ) (id : TrackId) (i : ℕ) (p : Option ℕ) → sound s ≡ true → FoundIn p id (records s) → p ≡ Some i → Within s i
+found_within s id i p e f w = let g : FoundIn (Some i) id (records s) = rw w at f in (e, g.0)
 
-pub free-within : (s : List ℕ) (i : ℕ) (p : Place) → sound s ≡ true → FreeIn p (records s) → p ≡ At i → Within s i
-free-within s i p e f w = let g : FreeIn (At i) (records s) = rw w at f in (e, g.0)
+pub free-within : (s : List ℕ) (i : ℕ) (p : Option ℕ) → sound s ≡ true → FreeIn p (records s) → p ≡ Some i → Within s i
+free-within s i p e f w = let g : FreeIn (Some i) (records s) = rw w at f in (e, g.0)

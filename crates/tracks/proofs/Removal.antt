@@ -1,8 +1,9 @@
 -- SPDX-License-Identifier: MIT
 -- What Make and Remove answer, cause by cause, over plain variables. Assumes nothing.
+use Rattle.std.specs.Prelude.{Option, Some, None}
 use mathlib.Core.Path.{◌≡◌, refl, sym, ◌∙◌, ap}
 use mathlib.Core.Bool.{Bool, true, false, not}
-use mathlib.Core.List.{List, []}
+use mathlib.Core.List.{List}
 use Prim.Native.Nat.{ℕ}
 use native.Mathlib.Omega.{arith}
 use lib.ListN.{length, get_or, set, replicate}
@@ -11,16 +12,13 @@ use Rattle.answers.specs.Answers.{done, store_invalid, kid_missing, role_refused
 use Rattle.answers.proofs.Basics.{told-false, told-true}
 use Rattle.track_record.specs.Record.{TrackId, TrackRecord, empty, is_empty, is_retired, retired}
 use Rattle.track_record.specs.Inner.Rows.{held_of}
-use Rattle.track_record.specs.declared.Held.{Held}
-use Rattle.track_record.specs.declared.Held.TheVariants as Variants
+use Rattle.track_record.specs.Inner.Rows.{Held}
 use Rattle.track_record.specs.declared.Kind.{Kind}
 use Rattle.track_record.specs.Record as Records
-use Rattle.tracks.specs.Calls.{stored, make, remove_causes, remove_at, remove}
+use Rattle.tracks.specs.Calls.{make, remove_causes, remove_at, remove}
 use Rattle.tracks.specs.Tracks.{length_right, encode_all, records, sound}
-use Rattle.tracks.specs.Table.{get, put, apart}
+use Rattle.tracks.specs.Table.{get, apart}
 use Rattle.tracks.specs.Inner.Places.{FoundIn}
-use Rattle.tracks.specs.declared.Place.{Place}
-use Rattle.tracks.specs.declared.Place.TheVariants.{At, Nowhere}
 use Rattle.track_record.proofs.Records.{holds-some}
 use Rattle.tracks.proofs.Stores.{sound-stored}
 use Rattle.tracks.proofs.Tables.{put-at}
@@ -37,11 +35,11 @@ make-done s x r e t q = let f = told-true r _ e t in (rw f, rw f q)
 
 -- ---- whether a record is retired
 
-pub retired-none : (r : TrackRecord) (h : Held) → h ≡ held_of r → h ≡ Variants.Nothing → false ≡ is_retired r
+pub retired-none : (r : TrackRecord) (h : Option Held) → h ≡ held_of r → h ≡ None → false ≡ is_retired r
 retired-none empty h e n = refl
 retired-none (Records.track t) h e n = let z : ◌≡◌ {A = ℕ} 0 1 = cc in absurd (omega arith)
 
-pub retired-told : (r : TrackRecord) (h : Held) (k : Kind) (s : Rattle.suites.specs.declared.sizes.Suite.Suite) → h ≡ held_of r → h ≡ Variants.Track k s → Records.rests k ≡ is_retired r
+pub retired-told : (r : TrackRecord) (h : Option Held) (k : Kind) (s : Rattle.suites.specs.declared.sizes.Suite.Suite) → h ≡ held_of r → h ≡ Some (k, s) → Records.rests k ≡ is_retired r
 retired-told empty h k s e n = let z : ◌≡◌ {A = ℕ} 0 1 = cc in absurd (omega arith)
 retired-told (Records.track t) h k s e n = let q : k ≡ t.kind = cc in ap Records.rests q
 
@@ -57,15 +55,15 @@ module _ (s : List ℕ) (id : TrackId) (is-sound : sound s ≡ true) where
   unfolding remove
   outcome-of held g = ap (λ (v : Bool). remove_at v (get id (records s)) (records s) s id) is-sound ∙ ap (λ (h : TrackRecord). remove_at true h (records s) s id) g
 
-  pub remove-missing : (p : Place) → FoundIn p id (records s) → p ≡ Nowhere → (kid_missing ≡ (remove s id).number) × (s ≡ (remove s id).store)
+  pub remove-missing : (p : Option ℕ) → FoundIn p id (records s) → p ≡ None → (kid_missing ≡ (remove s id).number) × (s ≡ (remove s id).store)
   unfolding remove_at remove_causes first settled
   remove-missing p f w =
       let g : get id (records s) ≡ empty = rw w at f in
       let q = outcome-of empty g in
       (sym (ap (λ (x : Outcome). x.number) q), sym (ap (λ (x : Outcome). x.store) q))
 
-  module _ (o : Octets s) (p : Place) (f : FoundIn p id (records s)) (i : ℕ) (w : p ≡ At i) where
-    found : FoundIn (At i) id (records s)
+  module _ (o : Octets s) (p : Option ℕ) (f : FoundIn p id (records s)) (i : ℕ) (w : p ≡ Some i) where
+    found : FoundIn (Some i) id (records s)
     found = rw w at f
 
     pub held-there : is_empty (get_or (records s) i empty) ≡ false

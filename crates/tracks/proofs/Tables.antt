@@ -1,5 +1,6 @@
 -- SPDX-License-Identifier: MIT
 -- Laws of the table: what stands under a track after a change, and that tracks stay apart. Assumes nothing.
+use Rattle.std.specs.Prelude.{Some}
 use mathlib.Core.Path.{◌≡◌, refl, sym, ◌∙◌, ap}
 use mathlib.Core.Bool.{Bool, true, false, false≢true}
 use mathlib.Core.List.{List, [], ◌∷◌}
@@ -11,7 +12,6 @@ use Rattle.tracks.specs.Table.{get, replace, put, fill, full, alone, apart}
 use Rattle.tracks.specs.Inner.Places.{FreeIn}
 use Rattle.track_record.proofs.Records.{holds-empty, holds-some, holds-own, holds-is, empty-is}
 use Rattle.answers.proofs.Basics.{Two, yes', no', two, both_true, both-and}
-use Rattle.tracks.specs.declared.Place.TheVariants.{At}
 
 -- ---- one record
 
@@ -207,7 +207,7 @@ module _ (id : TrackId) where
       replace-there (holds id) r x xs (passed x xs i a h (get_at xs i b h)) ∙ ap (λ (t : List TrackRecord). x ∷ t) (put-at r xs i b h)
 
 -- the lowest-numbered empty record is the one that is filled
-pub fill-at : (r : TrackRecord) (rs : List TrackRecord) (i : ℕ) → FreeIn (At i) rs → (fill r rs ≡ set rs i r) × (full rs ≡ false)
+pub fill-at : (r : TrackRecord) (rs : List TrackRecord) (i : ℕ) → FreeIn (Some i) rs → (fill r rs ≡ set rs i r) × (full rs ≡ false)
 unfolding fill full
 fill-at r [] i f = absurd (omega (arith, f.0))
 fill-at r (x ∷ xs) zero f = (replace-here is_empty r x xs f.1, rw f.1)

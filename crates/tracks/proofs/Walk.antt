@@ -1,14 +1,17 @@
 -- SPDX-License-Identifier: MIT
 -- Walks over the records of a store, one turn each, over plain variables. Assumes nothing.
-use mathlib.Core.Path.{◌≡◌, refl, sym, ◌∙◌, ap, ap₂}
-use mathlib.Core.Bool.{Bool, true, false, not}
+use Rattle.std.specs.Prelude.{Option, Some, None}
+use mathlib.Core.Path.{◌≡◌, refl, sym, ◌∙◌, ap}
+use mathlib.Core.Bool.{Bool, true, false, not, false≢true}
+use Rattle.std.specs.Option.{is_some}
 use mathlib.Core.List.{List, [], ◌∷◌}
 use Prim.Native.Nat.{ℕ, zero, suc, ◌+◌, ◌*◌, ◌/◌, ◌%◌, ◌-◌, ◌<◌, ◌≤◌}
 use native.Mathlib.Omega.{arith}
 use lib.Dec.{eqb}
 use lib.ListN.{length, get_or, take, drop, length-drop}
 use lib.Seq.{drop-drop}
-use borrow.Author.Tests.{le-leb, lt-leb, eqb-true, eqb-false}
+use borrow.Author.Count.{below_more}
+use borrow.Author.Tests.{le-leb, lt-leb}
 use Rattle.octets.specs.Octets.{both}
 use Rattle.octets.proofs.Laws.{part-rest}
 use Rattle.track_record.specs.Layout.{record_size, decode, obeys}
@@ -16,13 +19,11 @@ use Rattle.track_record.specs.Record.{TrackId, TrackRecord, empty, is_empty, hol
 use Rattle.track_record.specs.Inner.Rows.{id_of}
 use Rattle.tracks.specs.Tracks.{length_right, decode_all, all_obey, records, sound, max_records}
 use Rattle.tracks.specs.Table.{get, full, alone, apart}
-use Rattle.tracks.specs.Inner.Places.{FoundIn, FreeIn}
-use Rattle.answers.proofs.Basics.{Two, yes', no', two, told-false, told-true}
+use Rattle.tracks.specs.Inner.Places.{part_at, FoundIn, FreeIn}
+use Rattle.answers.proofs.Basics.{told-false, told-true}
 use Rattle.track_record.proofs.Records.{holds-some, holds-own, empty-is}
 use Rattle.tracks.proofs.Stores.{length-right}
 use Rattle.tracks.proofs.Tables.{get-here, get-there, alone-get}
-use Rattle.tracks.specs.declared.Place.{Place}
-use Rattle.tracks.specs.declared.Place.TheVariants.{At, Nowhere}
 
 -- ---- lengths
 
@@ -56,98 +57,112 @@ decode-at (suc n) s (suc i) h = decode-at n (drop record_size s) i (omega arith)
 
 -- ---- from one record to the next
 
-module _ (s : List ℕ) (at end : ℕ) (whole : length s % record_size ≡ 0) (inside : at < length s) (even : at % record_size ≡ 0) (next : end ≡ at + record_size) where
-  pub turn : (length s - at) / record_size ≡ suc ((length s - end) / record_size)
+-- what is left of the records after the first i
+abbrev left : List ℕ → ℕ → List TrackRecord
+left s i = decode_all (length s / record_size - i) (drop (i * record_size) s)
+
+abbrev left_obey : List ℕ → ℕ → Bool
+left_obey s i = all_obey (length s / record_size - i) (drop (i * record_size) s)
+
+abbrev pub Obeying : List ℕ → ℕ → Type 0
+Obeying s i = all_obey (length s / record_size) s ≡ left_obey s i
+
+abbrev pub Finding : TrackId → List ℕ → ℕ → Type 0
+Finding id s i = get id (records s) ≡ get id (left s i)
+
+abbrev pub Judging : List ℕ → ℕ → Type 0
+Judging s i = apart (records s) ≡ apart (left s i)
+
+module _ (s : List ℕ) (i : ℕ) (inside : i < length s / record_size) where
+  turn : length s / record_size - i ≡ suc (length s / record_size - (i + 1))
   turn = omega arith
 
-  part-is : take (end - at) (drop at s) ≡ take record_size (drop at s)
-  part-is = let e : end - at ≡ record_size = omega arith in ap (λ (k : ℕ). take k (drop at s)) e
+  rest-is : drop record_size (drop (i * record_size) s) ≡ drop ((i + 1) * record_size) s
+  rest-is = let e : i * record_size + record_size ≡ (i + 1) * record_size = omega arith in drop-drop record_size (i * record_size) s ∙ ap (λ (k : ℕ). drop k s) e
 
-  rest-is : drop record_size (drop at s) ≡ drop end s
-  rest-is = drop-drop record_size at s ∙ ap (λ (k : ℕ). drop k s) (sym next)
-
-  obey-turn : all_obey ((length s - at) / record_size) (drop at s) ≡ both (obeys (take (end - at) (drop at s))) (all_obey ((length s - end) / record_size) (drop end s))
+  obey-turn : left_obey s i ≡ both (obeys (part_at s i)) (left_obey s (i + 1))
   unfolding all_obey
   obey-turn =
-      ap (λ (k : ℕ). all_obey k (drop at s)) turn
-      ∙ ap₂ (λ (x y : List ℕ). both (obeys x) (all_obey ((length s - end) / record_size) y)) (sym part-is) rest-is
+      ap (λ (k : ℕ). all_obey k (drop (i * record_size) s)) turn
+      ∙ ap (λ (y : List ℕ). both (obeys (part_at s i)) (all_obey (length s / record_size - (i + 1)) y)) rest-is
 
-  records-turn : decode_all ((length s - at) / record_size) (drop at s) ≡ decode (take (end - at) (drop at s)) ∷ decode_all ((length s - end) / record_size) (drop end s)
+  records-turn : left s i ≡ decode (part_at s i) ∷ left s (i + 1)
   unfolding decode_all
   records-turn =
-      ap (λ (k : ℕ). decode_all k (drop at s)) turn
-      ∙ ap₂ (λ (x y : List ℕ). decode x ∷ decode_all ((length s - end) / record_size) y) (sym part-is) rest-is
+      ap (λ (k : ℕ). decode_all k (drop (i * record_size) s)) turn
+      ∙ ap (λ (y : List ℕ). decode (part_at s i) ∷ decode_all (length s / record_size - (i + 1)) y) rest-is
+
+  record_is : get_or (records s) i empty ≡ decode (part_at s i)
+  unfolding records
+  record_is = decode-at (length s / record_size) s i inside
+
+  within : i < length (records s)
+  unfolding records
+  within = let n = decode-all-length (length s / record_size) s in omega (arith, n, inside)
 
   -- judging the rows
-  pub obey-stop : (r : Bool) → r ≡ obeys (take (end - at) (drop at s)) → not r ≡ true → all_obey (length s / record_size) s ≡ all_obey ((length s - at) / record_size) (drop at s) → false ≡ all_obey (length s / record_size) s
-  obey-stop r e t i = sym (i ∙ obey-turn ∙ ap (λ (b : Bool). both b (all_obey ((length s - end) / record_size) (drop end s))) (told-false r _ e t))
+  module _ (r : Bool) (e : r ≡ obeys (part_at s i)) (f : Obeying s i) where
+    pub obey-stop : r ≡ false → false ≡ all_obey (length s / record_size) s
+    obey-stop t = sym (f ∙ obey-turn ∙ ap (λ (b : Bool). both b (left_obey s (i + 1))) (sym e ∙ t))
 
-  pub obey-go : (r : Bool) → r ≡ obeys (take (end - at) (drop at s)) → not r ≡ false → all_obey (length s / record_size) s ≡ all_obey ((length s - at) / record_size) (drop at s)
-      → all_obey (length s / record_size) s ≡ all_obey ((length s - end) / record_size) (drop end s)
-  obey-go r e t i = i ∙ obey-turn ∙ ap (λ (b : Bool). both b (all_obey ((length s - end) / record_size) (drop end s))) (told-true r _ e t)
+    pub obey-go : r ≡ true → Obeying s (i + 1)
+    obey-go t = f ∙ obey-turn ∙ ap (λ (b : Bool). both b (left_obey s (i + 1))) (sym e ∙ t)
 
   -- looking a track up
-  pub find-go : (id : TrackId) (r : Bool) → r ≡ holds id (decode (take (end - at) (drop at s))) → r ≡ false
-      → get id (decode_all (length s / record_size) s) ≡ get id (decode_all ((length s - at) / record_size) (drop at s)) → get id (decode_all (length s / record_size) s) ≡ get id (decode_all ((length s - end) / record_size) (drop end s))
-  find-go id r e t i = i ∙ ap (get id) records-turn ∙ get-there id (decode (take (end - at) (drop at s))) (decode_all ((length s - end) / record_size) (drop end s)) (sym e ∙ t)
+  module _ (id : TrackId) (r : Bool) (e : r ≡ holds id (decode (part_at s i))) (f : Finding id s i) where
+    pub find-go : r ≡ false → Finding id s (i + 1)
+    find-go t = f ∙ ap (get id) records-turn ∙ get-there id (decode (part_at s i)) (left s (i + 1)) (sym e ∙ t)
 
-  pub find-here : (id : TrackId) (r : Bool) → r ≡ holds id (decode (take (end - at) (drop at s))) → r ≡ true
-      → get id (decode_all (length s / record_size) s) ≡ get id (decode_all ((length s - at) / record_size) (drop at s)) → FoundIn (At (at / record_size)) id (decode_all (length s / record_size) s)
-  find-here id r e t i =
-      let n = decode-all-length (length s / record_size) s in
-      let low : at / record_size < length s / record_size = omega arith in
-      let place : at / record_size * record_size ≡ at = omega arith in
-      let d : get_or (decode_all (length s / record_size) s) (at / record_size) empty ≡ decode (take (end - at) (drop at s)) =
-      decode-at (length s / record_size) s (at / record_size) low ∙ ap (λ (k : ℕ). decode (take record_size (drop k s))) place ∙ ap decode (sym part-is)
-      in
-      let h : holds id (decode (take (end - at) (drop at s))) ≡ true = sym e ∙ t in
-      (omega arith, i ∙ ap (get id) records-turn ∙ get-here id (decode (take (end - at) (drop at s))) (decode_all ((length s - end) / record_size) (drop end s)) h ∙ sym d, ap (holds id) d ∙ h)
+    pub find-here : r ≡ true → FoundIn (Some i) id (records s)
+    find-here t =
+        let h : holds id (decode (part_at s i)) ≡ true = sym e ∙ t in
+        (within, f ∙ ap (get id) records-turn ∙ get-here id (decode (part_at s i)) (left s (i + 1)) h ∙ sym record_is, ap (holds id) record_is ∙ h)
 
   -- judging that tracks are apart
-  rest-records : decode_all (length (take (length s - end) (drop end s)) / record_size) (take (length s - end) (drop end s)) ≡ decode_all ((length s - end) / record_size) (drop end s)
+  rest-records : records (take (length s - (i + 1) * record_size) (drop ((i + 1) * record_size) s)) ≡ left s (i + 1)
+  unfolding records
   rest-records =
-      ap (λ (x : List ℕ). decode_all (length x / record_size) x) (part-rest end s) ∙ ap (λ (k : ℕ). decode_all (k / record_size) (drop end s)) (length-drop end s)
+      let at = (i + 1) * record_size in
+      let e : (length s - at) / record_size ≡ length s / record_size - (i + 1) = omega arith in
+      ap (λ (x : List ℕ). decode_all (length x / record_size) x) (part-rest at s)
+      ∙ ap (λ (k : ℕ). decode_all (k / record_size) (drop at s)) (length-drop at s)
+      ∙ ap (λ (k : ℕ). decode_all k (drop at s)) e
 
-  pub apart-stop : (r : Bool) → r ≡ alone (decode (take (end - at) (drop at s))) (decode_all (length (take (length s - end) (drop end s)) / record_size) (take (length s - end) (drop end s))) → not r ≡ true
-      → apart (decode_all (length s / record_size) s) ≡ apart (decode_all ((length s - at) / record_size) (drop at s)) → false ≡ apart (decode_all (length s / record_size) s)
-  unfolding apart
-  apart-stop r e t i =
-      sym (i ∙ ap apart records-turn ∙ ap (λ (b : Bool). both b (apart (decode_all ((length s - end) / record_size) (drop end s))))
-      (ap (alone (decode (take (end - at) (drop at s)))) (sym rest-records) ∙ told-false r _ e t))
+  module _ (r : Bool) (e : r ≡ alone (decode (part_at s i)) (records (take (length s - (i + 1) * record_size) (drop ((i + 1) * record_size) s)))) (f : Judging s i) where
+    told : apart (records s) ≡ both r (apart (left s (i + 1)))
+    unfolding apart
+    told = f ∙ ap apart records-turn ∙ ap (λ (b : Bool). both b (apart (left s (i + 1)))) (ap (alone (decode (part_at s i))) (sym rest-records) ∙ sym e)
 
-  pub apart-go : (r : Bool) → r ≡ alone (decode (take (end - at) (drop at s))) (decode_all (length (take (length s - end) (drop end s)) / record_size) (take (length s - end) (drop end s))) → not r ≡ false
-      → apart (decode_all (length s / record_size) s) ≡ apart (decode_all ((length s - at) / record_size) (drop at s)) → apart (decode_all (length s / record_size) s) ≡ apart (decode_all ((length s - end) / record_size) (drop end s))
-  unfolding apart
-  apart-go r e t i =
-      i ∙ ap apart records-turn ∙ ap (λ (b : Bool). both b (apart (decode_all ((length s - end) / record_size) (drop end s))))
-      (ap (alone (decode (take (end - at) (drop at s)))) (sym rest-records) ∙ told-true r _ e t)
+    pub apart-stop : r ≡ false → false ≡ apart (records s)
+    apart-stop t = sym (told ∙ rw t)
+
+    pub apart-go : r ≡ true → Judging s (i + 1)
+    apart-go t = told ∙ rw t
 
 -- ---- the first record, and past the last one
 
-from_start : (s : List ℕ) → (length s - 0) / record_size ≡ length s / record_size
-from_start s = omega arith
+pub obey-start : (s : List ℕ) → Obeying s 0
+obey-start s = let e : length s / record_size ≡ length s / record_size - 0 = omega arith in ap (λ (k : ℕ). all_obey k s) e
 
-pub obey-start : (s : List ℕ) → all_obey (length s / record_size) s ≡ all_obey ((length s - 0) / record_size) (drop 0 s)
-obey-start s = ap (λ (k : ℕ). all_obey k s) (sym (from_start s))
+pub records-start : (s : List ℕ) → records s ≡ left s 0
+unfolding records
+records-start s = let e : length s / record_size ≡ length s / record_size - 0 = omega arith in ap (λ (k : ℕ). decode_all k s) e
 
-pub records-start : (s : List ℕ) → decode_all (length s / record_size) s ≡ decode_all ((length s - 0) / record_size) (drop 0 s)
-records-start s = ap (λ (k : ℕ). decode_all k s) (sym (from_start s))
-
-module _ (s : List ℕ) (at : ℕ) (past : length s ≤ at) where
-  none_left : (length s - at) / record_size ≡ 0
+module _ (s : List ℕ) (i : ℕ) (past : length s / record_size ≤ i) where
+  none_left : length s / record_size - i ≡ 0
   none_left = omega arith
 
-  pub obey-end : all_obey (length s / record_size) s ≡ all_obey ((length s - at) / record_size) (drop at s) → true ≡ all_obey (length s / record_size) s
+  pub obey-end : Obeying s i → true ≡ all_obey (length s / record_size) s
   unfolding all_obey
-  obey-end i = sym (i ∙ ap (λ (k : ℕ). all_obey k (drop at s)) none_left)
+  obey-end f = sym (f ∙ ap (λ (k : ℕ). all_obey k (drop (i * record_size) s)) none_left)
 
-  pub find-end : (id : TrackId) → get id (decode_all (length s / record_size) s) ≡ get id (decode_all ((length s - at) / record_size) (drop at s)) → get id (decode_all (length s / record_size) s) ≡ empty
+  pub find-end : (id : TrackId) → Finding id s i → get id (records s) ≡ empty
   unfolding decode_all get
-  find-end id i = i ∙ ap (λ (k : ℕ). get id (decode_all k (drop at s))) none_left
+  find-end id f = f ∙ ap (λ (k : ℕ). get id (decode_all k (drop (i * record_size) s))) none_left
 
-  pub apart-end : apart (decode_all (length s / record_size) s) ≡ apart (decode_all ((length s - at) / record_size) (drop at s)) → true ≡ apart (decode_all (length s / record_size) s)
+  pub apart-end : Judging s i → true ≡ apart (records s)
   unfolding decode_all apart
-  apart-end i = sym (i ∙ ap (λ (k : ℕ). apart (decode_all k (drop at s))) none_left)
+  apart-end f = sym (f ∙ ap (λ (k : ℕ). apart (decode_all k (drop (i * record_size) s))) none_left)
 
 -- ---- one record's track among the others
 
@@ -159,13 +174,19 @@ module _ (x : TrackRecord) (rs : List TrackRecord) (v : TrackId) (r : Bool) (e :
   alone-is : alone x rs ≡ is_empty (get v rs)
   alone-is = alone-get v x rs (ap (λ (k : TrackId). holds k x) q ∙ holds-own x (sym e ∙ t))
 
-  pub alone-nowhere : (p : Place) → FoundIn p v rs → p ≡ Nowhere → true ≡ alone x rs
+  pub alone-nowhere : (p : Option ℕ) → FoundIn p v rs → p ≡ None → true ≡ alone x rs
   alone-nowhere p f w = let g : get v rs ≡ empty = rw w at f in sym (alone-is ∙ ap is_empty g)
 
-  pub alone-found : (p : Place) (i : ℕ) → FoundIn p v rs → p ≡ At i → false ≡ alone x rs
+  pub alone-found : (p : Option ℕ) (i : ℕ) → FoundIn p v rs → p ≡ Some i → false ≡ alone x rs
   alone-found p i f w =
-      let g : FoundIn (At i) v rs = rw w at f in
+      let g : FoundIn (Some i) v rs = rw w at f in
       sym (alone-is ∙ ap is_empty g.1 ∙ holds-some v (get_or rs i empty) g.2)
+
+  pub alone-told : (p : Option ℕ) (b : Bool) → FoundIn p v rs → is_some p ≡ not b → b ≡ alone x rs
+  alone-told None true f h = alone-nowhere None f refl
+  alone-told None false f h = absurd (false≢true h)
+  alone-told (Some i) true f h = absurd (false≢true (sym h))
+  alone-told (Some i) false f h = alone-found (Some i) i f refl
 
 -- ---- the whole store
 
@@ -190,37 +211,22 @@ module _ (s : List ℕ) (r : Bool) (e : r ≡ length_right (length s)) (t : not 
 
 -- ---- room for one more
 
--- no record before the one at index at is empty
+-- none of the first i records is empty
 abbrev pub NoneFree : List ℕ → ℕ → Type 0
-NoneFree s at = (j : ℕ) → j < at / record_size → is_empty (get_or (decode_all (length s / record_size) s) j empty) ≡ false
+NoneFree s i = (j : ℕ) → j < i → is_empty (get_or (records s) j empty) ≡ false
 
-module _ (s : List ℕ) (at end : ℕ) (whole : length s % record_size ≡ 0) (inside : at < length s) (even : at % record_size ≡ 0) (next : end ≡ at + record_size) where
-  record_is : get_or (decode_all (length s / record_size) s) (at / record_size) empty ≡ decode (take (end - at) (drop at s))
-  record_is =
-      let low : at / record_size < length s / record_size = omega arith in
-      let place : at / record_size * record_size ≡ at = omega arith in
-      decode-at (length s / record_size) s (at / record_size) low ∙ ap (λ (k : ℕ). decode (take record_size (drop k s))) place ∙ ap decode (sym (part-is s at end whole inside even next))
+module _ (s : List ℕ) (i : ℕ) (inside : i < length s / record_size) (r : Bool) (e : r ≡ is_empty (decode (part_at s i))) (n : NoneFree s i) where
+  pub free-here : r ≡ true → FreeIn (Some i) (records s)
+  free-here t = (within s i inside, ap is_empty (record_is s i inside) ∙ sym e ∙ t, n)
 
-  pub free-here : (r : Bool) → r ≡ is_empty (decode (take (end - at) (drop at s))) → r ≡ true → NoneFree s at → FreeIn (At (at / record_size)) (decode_all (length s / record_size) s)
-  free-here r e t n =
-      let l = decode-all-length (length s / record_size) s in
-      (omega arith, ap is_empty record_is ∙ sym e ∙ t, n)
-
-  pub free-go : (r : Bool) → r ≡ is_empty (decode (take (end - at) (drop at s))) → r ≡ false → NoneFree s at → NoneFree s end
-  free-go r e t n j h = by (two (eqb j (at / record_size)))
-    where
-      by : Two (eqb j (at / record_size)) → is_empty (get_or (decode_all (length s / record_size) s) j empty) ≡ false
-      by (yes' q) =
-          ap (λ (k : ℕ). is_empty (get_or (decode_all (length s / record_size) s) k empty)) (eqb-true j (at / record_size) q)
-          ∙ ap is_empty record_is
-          ∙ sym e
-          ∙ t
-      by (no' q) = n j (omega (arith, eqb-false j (at / record_size) q))
+  pub free-go : r ≡ false → NoneFree s (i + 1)
+  free-go t = below_more (λ (j : ℕ). is_empty (get_or (records s) j empty) ≡ false) i n (ap is_empty (record_is s i inside) ∙ sym e ∙ t)
 
 all-full : (rs : List TrackRecord) → ((j : ℕ) → j < length rs → is_empty (get_or rs j empty) ≡ false) → full rs ≡ true
 unfolding full
 all-full [] n = refl
 all-full (x ∷ xs) n = rw (n 0 (omega arith)) (all-full xs (λ j h. n (suc j) (omega arith)))
 
-pub free-end : (s : List ℕ) (at : ℕ) → length s % record_size ≡ 0 → length s ≤ at → NoneFree s at → full (decode_all (length s / record_size) s) ≡ true
-free-end s at w h n = let l = decode-all-length (length s / record_size) s in all-full (decode_all (length s / record_size) s) (λ j k. n j (omega arith))
+pub free-end : (s : List ℕ) (i : ℕ) → length s / record_size ≤ i → NoneFree s i → full (records s) ≡ true
+unfolding records
+free-end s i h n = let l = decode-all-length (length s / record_size) s in all-full (decode_all (length s / record_size) s) (λ j k. n j (omega arith))

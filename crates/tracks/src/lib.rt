@@ -2,7 +2,8 @@
 // The track store: records, one after the other, in bytes that the caller lends.
 #![tactic(auto)]
 
-ghost use Rattle.std.specs.Prelude.{◌≡◌, true, false, ◌<◌, ◌≤◌, length, get_or, set};
+ghost use Rattle.std.specs.Prelude.{◌≡◌, true, false, ◌+◌, ◌*◌, ◌<◌, ◌≤◌, length, get_or, set};
+ghost use Rattle.answers.specs.Refusals.{number_of};
 ghost use Rattle.answers.specs.Limits.{base_key_most};
 ghost use Rattle.secure_objects.specs.Objects.{name_most, object_ceiling, counter};
 ghost use Rattle.track_record.specs.Layout.{record_size, decode};
@@ -10,21 +11,14 @@ ghost use Rattle.track_record.specs.Record.{track_id, empty, is_empty, is_retire
 ghost use Rattle.tracks.specs.Calls.{make, remove};
 ghost use Rattle.tracks.specs.Tracks.{length_right, encode_all, records, sound};
 ghost use Rattle.tracks.specs.Table.{alone, apart};
-ghost use Rattle.tracks.specs.Inner.Places.{Whole, rows_obey, Within, RowOf, FoundIn, FreeIn};
+ghost use Rattle.tracks.specs.Inner.Places.{Whole, part_at, rows_obey, Within, RowOf, FoundIn, FreeIn};
 
-use answers::{DONE, KID_MISSING, ROLE_REFUSED, STORE_INVALID};
+use answers::Refusal;
 use secure_objects::{GroupId, KeyId, ObjectId};
 use suites::Suite;
-use track_record::{Held, Kind, RECORD_SIZE, Role, judging, row};
+use track_record::{Kind, RECORD_SIZE, Role, judging, row};
 
 pub const MAX_RECORDS: usize = 16;
-
-// Where a record stands: the number of the record, or nowhere.
-#[derive(Clone, Copy)]
-pub enum Place {
-    At(usize),
-    Nowhere,
-}
 
 // Whether a length is that of a track store.
 fn length_right(n: usize) -> bool
@@ -39,52 +33,51 @@ fn length_right(n: usize) -> bool
     n % RECORD_SIZE == 0
 }
 
+// The bytes where record i stands.
+fn part(store: &[u8], i: usize) -> &[u8]
+    requires { (i + 1) * record_size ≤ length store.now }
+    ensures { (result.now ≡ part_at store.now i) × (length result.now ≡ record_size) }
+{
+    &store[i * RECORD_SIZE..(i + 1) * RECORD_SIZE]
+}
+
 // Whether the bytes of every record obey the layout.
 fn rows_obey(store: &[u8]) -> bool
     requires { Whole store.now }
     ensures { result ≡ rows_obey store.now }
 {
-    let mut at = 0;
-    while at < store.len() {
-        let end = at + RECORD_SIZE;
-        if !judging::obeys_layout(&store[at..end]) {
+    for i in 0..store.len() / RECORD_SIZE {
+        if !judging::obeys_layout(part(store, i)) {
             return false;
         }
-        at = end;
     }
     true
 }
 
 // Where the record stands that holds a track.
-pub fn find(store: &[u8], name: &[u8], id: KeyId) -> Place
+pub fn find(store: &[u8], name: &[u8], id: KeyId) -> Option<usize>
     requires { Whole store.now }
     ensures { FoundIn result (track_id name.now id.0) (records store.now) }
 {
-    let mut at = 0;
-    while at < store.len() {
-        let end = at + RECORD_SIZE;
-        if row::holds(&store[at..end], name, id) {
-            return Place::At(at / RECORD_SIZE);
+    for i in 0..store.len() / RECORD_SIZE {
+        if row::holds(part(store, i), name, id) {
+            return Some(i);
         }
-        at = end;
     }
-    Place::Nowhere
+    None
 }
 
 // Where the lowest-numbered empty record stands.
-pub fn find_free(store: &[u8]) -> Place
+pub fn find_free(store: &[u8]) -> Option<usize>
     requires { Whole store.now }
     ensures { FreeIn result (records store.now) }
 {
-    let mut at = 0;
-    while at < store.len() {
-        let end = at + RECORD_SIZE;
-        if row::is_empty(&store[at..end]) {
-            return Place::At(at / RECORD_SIZE);
+    for i in 0..store.len() / RECORD_SIZE {
+        if row::is_empty(part(store, i)) {
+            return Some(i);
         }
-        at = end;
     }
-    Place::Nowhere
+    None
 }
 
 // Whether no record of rest shares name and Key ID of a record.
@@ -95,10 +88,7 @@ fn alone_in(row: &[u8], rest: &[u8]) -> bool
     if row::is_empty(row) {
         return true;
     }
-    let Place::At(place) = find(rest, row::name_of(row), row::key_id_of(row)) else {
-        return true;
-    };
-    false
+    find(rest, row::name_of(row), row::key_id_of(row)).is_none()
 }
 
 // Whether no two non-empty records share name and Key ID.
@@ -106,13 +96,10 @@ fn tracks_apart(store: &[u8]) -> bool
     requires { Whole store.now }
     ensures { result ≡ apart (records store.now) }
 {
-    let mut at = 0;
-    while at < store.len() {
-        let end = at + RECORD_SIZE;
-        if !alone_in(&store[at..end], &store[end..]) {
+    for i in 0..store.len() / RECORD_SIZE {
+        if !alone_in(part(store, i), &store[(i + 1) * RECORD_SIZE..]) {
             return false;
         }
-        at = end;
     }
     true
 }
@@ -135,9 +122,7 @@ pub fn row_at(store: &[u8], i: usize) -> &[u8]
     requires { Within store.now i }
     ensures { RowOf store.now i result.now }
 {
-    let at = i * RECORD_SIZE;
-    let end = at + RECORD_SIZE;
-    &store[at..end]
+    part(store, i)
 }
 
 // Writes a new track to record i, which is empty.
@@ -183,42 +168,33 @@ fn is_retired(row: &[u8]) -> bool
     requires { length row.now ≡ record_size }
     ensures { result ≡ is_retired (decode row.now) }
 {
-    let Held::Track(kind, suite) = row::held_in(row) else {
-        return false;
-    };
-    match kind {
-        Kind::Sender => false,
-        Kind::Receiver => false,
-        Kind::Retired => true,
-    }
+    matches!(row::held_in(row), Some((Kind::Retired, _)))
 }
 
 // Makes a track store: zeros throughout.
-pub fn make(store: &mut [u8]) -> u32
-    ensures value { result ≡ (make store.old).number }
+pub fn make(store: &mut [u8]) -> Result<(), Refusal>
+    ensures value { number_of result ≡ (make store.old).number }
     ensures store_after { store.new ≡ (make store.old).store }
 {
     if !length_right(store.len()) {
-        return STORE_INVALID;
+        return Err(Refusal::StoreInvalid);
     }
     octets::clear(store);
-    DONE
+    Ok(())
 }
 
 // Removes a track: its record is retired.
-pub fn remove(store: &mut [u8], name: &[u8], id: KeyId) -> u32
-    ensures value { result ≡ (remove store.old (track_id name.now id.0)).number }
+pub fn remove(store: &mut [u8], name: &[u8], id: KeyId) -> Result<(), Refusal>
+    ensures value { number_of result ≡ (remove store.old (track_id name.now id.0)).number }
     ensures store_after { store.new ≡ (remove store.old (track_id name.now id.0)).store }
 {
     if !is_sound(store) {
-        return STORE_INVALID;
+        return Err(Refusal::StoreInvalid);
     }
-    let Place::At(i) = find(store, name, id) else {
-        return KID_MISSING;
-    };
+    let i = find(store, name, id).ok_or(Refusal::KidMissing)?;
     if is_retired(row_at(store, i)) {
-        return ROLE_REFUSED;
+        return Err(Refusal::RoleRefused);
     }
     retire_at(store, i);
-    DONE
+    Ok(())
 }

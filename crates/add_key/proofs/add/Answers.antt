@@ -27,18 +27,18 @@ returns-in_default c =
 pub returns-then-is_barred : goal.returns-then-is_barred
 returns-then-is_barred c =
     let a = c.args in
-    let answered = add-barred sframe a.store.now a.role a.kid.0 a.suite a.base.now _ c.is_sound.ensures (ap not c.if-not-is_sound.false) (suite-named a.suite _ (sym c.find.ensures ∙ c.in-Known.is)) (sym c.is_barred.ensures ∙ c.if-is_barred.true) in record { value = answered.0; store_after = answered.1 }
+    let answered = add-barred sframe a.store.now a.role a.kid.0 a.suite a.base.now _ c.is_sound.ensures (ap not c.if-not-is_sound.false) (suite-named a.suite _ (sym c.find.ensures ∙ c.in-Some.is)) (sym c.is_barred.ensures ∙ c.if-is_barred.true) in record { value = answered.0; store_after = answered.1 }
 
 pub returns-then-base-lt-MIN_BASE_KEY : goal.returns-then-base-lt-MIN_BASE_KEY
 returns-then-base-lt-MIN_BASE_KEY c =
-    let known_at : is_suite c.args.suite ≡ true = suite-named _ _ (sym c.find.ensures ∙ c.in-Known.is) in
+    let known_at : is_suite c.args.suite ≡ true = suite-named _ _ (sym c.find.ensures ∙ c.in-Some.is) in
     let allowed_at : barred c.args.role c.args.suite ≡ false = sym c.is_barred.ensures ∙ c.if-is_barred.false in
     let a = c.args in
     let answered = add-short sframe a.store.now a.role a.kid.0 a.suite a.base.now _ c.is_sound.ensures (ap not c.if-not-is_sound.false) (known_at) (allowed_at) c.if-base-lt-MIN_BASE_KEY.true in record { value = answered.0; store_after = answered.1 }
 
 pub returns-then-base-gt-MAX_BASE_KEY : goal.returns-then-base-gt-MAX_BASE_KEY
 returns-then-base-gt-MAX_BASE_KEY c =
-    let known_at : is_suite c.args.suite ≡ true = suite-named _ _ (sym c.find.ensures ∙ c.in-Known.is) in
+    let known_at : is_suite c.args.suite ≡ true = suite-named _ _ (sym c.find.ensures ∙ c.in-Some.is) in
     let allowed_at : barred c.args.role c.args.suite ≡ false = sym c.is_barred.ensures ∙ c.if-is_barred.false in
     let a = c.args in
     let answered = add-long sframe a.store.now a.role a.kid.0 a.suite a.base.now _ c.is_sound.ensures (ap not c.if-not-is_sound.false) (known_at) (allowed_at) c.if-base-lt-MIN_BASE_KEY.false c.if-base-gt-MAX_BASE_KEY.true in record { value = answered.0; store_after = answered.1 }
@@ -55,7 +55,7 @@ stands_at-requires c =
 
 pub returns-then-stands_at : goal.returns-then-stands_at
 returns-then-stands_at c =
-    let known_at : is_suite c.args.suite ≡ true = suite-named _ _ (sym c.find.ensures ∙ c.in-Known.is) in
+    let known_at : is_suite c.args.suite ≡ true = suite-named _ _ (sym c.find.ensures ∙ c.in-Some.is) in
     let allowed_at : barred c.args.role c.args.suite ≡ false = sym c.is_barred.ensures ∙ c.if-is_barred.false in
     let a = c.args in
     let answered = add-held sframe a.store.now a.role a.kid.0 a.suite a.base.now _ c.is_sound.ensures (ap not c.if-not-is_sound.false) (known_at) (allowed_at) c.if-base-lt-MIN_BASE_KEY.false c.if-base-gt-MAX_BASE_KEY.false _ c.rank-i.ensures _ c.stands_at.ensures c.if-stands_at.true in record { value = answered.0; store_after = answered.1 }
@@ -67,23 +67,23 @@ is_full-requires c =
 
 pub returns-then-is_full : goal.returns-then-is_full
 returns-then-is_full c =
-    let known_at : is_suite c.args.suite ≡ true = suite-named _ _ (sym c.find.ensures ∙ c.in-Known.is) in
+    let known_at : is_suite c.args.suite ≡ true = suite-named _ _ (sym c.find.ensures ∙ c.in-Some.is) in
     let allowed_at : barred c.args.role c.args.suite ≡ false = sym c.is_barred.ensures ∙ c.if-is_barred.false in
     let a = c.args in
     let answered = add-full sframe a.store.now a.role a.kid.0 a.suite a.base.now _ c.is_sound.ensures (ap not c.if-not-is_sound.false) (known_at) (allowed_at) c.if-base-lt-MIN_BASE_KEY.false c.if-base-gt-MAX_BASE_KEY.false _ c.rank-i.ensures _ c.stands_at.ensures c.if-stands_at.false _ c.is_full.ensures c.if-is_full.true in record { value = answered.0; store_after = answered.1 }
 
 pub insert_at-requires : goal.insert_at-requires
 insert_at-requires c =
-    let known_at : is_suite c.args.suite ≡ true = suite-named _ _ (sym c.find.ensures ∙ c.in-Known.is) in
+    let known_at : is_suite c.args.suite ≡ true = suite-named _ _ (sym c.find.ensures ∙ c.in-Some.is) in
     let allowed_at : barred c.args.role c.args.suite ≡ false = sym c.is_barred.ensures ∙ c.if-is_barred.false in
     let a = c.args in
     (add-room sframe a.store.now a.role a.kid.0 a.suite a.base.now _ c.is_sound.ensures (ap not c.if-not-is_sound.false) (known_at) (allowed_at) c.if-base-lt-MIN_BASE_KEY.false c.if-base-gt-MAX_BASE_KEY.false _ c.rank-i.ensures _ c.stands_at.ensures c.if-stands_at.false _ c.is_full.ensures c.if-is_full.false, c.if-base-gt-MAX_BASE_KEY.false)
 
 pub returns : goal.returns
 returns c =
-    let known_at : is_suite c.args.suite ≡ true = suite-named _ _ (sym c.find.ensures ∙ c.in-Known.is) in
+    let known_at : is_suite c.args.suite ≡ true = suite-named _ _ (sym c.find.ensures ∙ c.in-Some.is) in
     let allowed_at : barred c.args.role c.args.suite ≡ false = sym c.is_barred.ensures ∙ c.if-is_barred.false in
     let a = c.args in
-    let n = number_is a.suite c.in-Known.known (sym c.find.ensures ∙ c.in-Known.is) in
+    let n = number_is a.suite c.in-Some.known (sym c.find.ensures ∙ c.in-Some.is) in
     let answered = add_done sframe a.store.now a.role a.kid.0 a.suite a.base.now _ c.is_sound.ensures (ap not c.if-not-is_sound.false) (known_at) (allowed_at) c.if-base-lt-MIN_BASE_KEY.false c.if-base-gt-MAX_BASE_KEY.false _ c.rank-i.ensures _ c.stands_at.ensures c.if-stands_at.false _ c.is_full.ensures c.if-is_full.false _
-    (c.insert_at.ensures ∙ ap (λ (r : KeyRecord). encode_all (insert r (records a.store.now))) (added-told a.role c.in-Known.known a.kid.0 a.suite a.base.now n)) in record { value = answered.0; store_after = answered.1 }
+    (c.insert_at.ensures ∙ ap (λ (r : KeyRecord). encode_all (insert r (records a.store.now))) (added-told a.role c.in-Some.known a.kid.0 a.suite a.base.now n)) in record { value = answered.0; store_after = answered.1 }

@@ -12,17 +12,17 @@ use Rattle.begin_check.proofs.begin_with.Goals as goal
 pub returns-then-not-is_receiving : goal.returns-then-not-is_receiving
 returns-then-not-is_receiving c =
     let a = c.args in
-    let answered = role-refused (decode a.row.now) a.metadata.now a.bytes.now a.state.now a.kid a.ctr a.n a.announced c.requires.1 (told-false _ _ c.is_receiving.ensures (ap not c.if-not-is_receiving.true)) in record { value = answered.0; state_after = answered.1 }
+    let answered = role-refused (decode a.row.now) a.metadata.now a.bytes.now a.state.now a.head.kid a.head.ctr a.head.length a.announced c.requires.1 (told-false _ _ c.is_receiving.ensures (ap not c.if-not-is_receiving.true)) in record { value = answered.0; state_after = answered.1 }
 
 pub returns-then-too_long : goal.returns-then-too_long
 returns-then-too_long c =
     let a = c.args in
-    let answered = long-refused (decode a.row.now) a.metadata.now a.bytes.now a.state.now a.kid a.ctr a.n a.announced (told-true _ _ c.is_receiving.ensures (ap not c.if-not-is_receiving.false)) (sym c.if-too_long.true ∙ c.too_long.ensures) in record { value = answered.0; state_after = answered.1 }
+    let answered = long-refused (decode a.row.now) a.metadata.now a.bytes.now a.state.now a.head.kid a.head.ctr a.head.length a.announced (told-true _ _ c.is_receiving.ensures (ap not c.if-not-is_receiving.false)) (sym c.if-too_long.true ∙ c.too_long.ensures) in record { value = answered.0; state_after = answered.1 }
 
 pub returns-then-state-lt-STATE_SIZE : goal.returns-then-state-lt-STATE_SIZE
 returns-then-state-lt-STATE_SIZE c =
     let a = c.args in
-    let answered = state-refused (decode a.row.now) a.metadata.now a.bytes.now a.state.now a.kid a.ctr a.n a.announced (told-true _ _ c.is_receiving.ensures (ap not c.if-not-is_receiving.false)) (sym c.if-too_long.false ∙ c.too_long.ensures) c.if-state-lt-STATE_SIZE.true in record { value = answered.0; state_after = answered.1 }
+    let answered = state-refused (decode a.row.now) a.metadata.now a.bytes.now a.state.now a.head.kid a.head.ctr a.head.length a.announced (told-true _ _ c.is_receiving.ensures (ap not c.if-not-is_receiving.false)) (sym c.if-too_long.false ∙ c.too_long.ensures) c.if-state-lt-STATE_SIZE.true in record { value = answered.0; state_after = answered.1 }
 
 pub write_first-requires : goal.write_first-requires
 write_first-requires c =
@@ -32,4 +32,4 @@ write_first-requires c =
 pub returns : goal.returns
 returns c =
     let a = c.args in
-    let answered = check-begun (decode a.row.now) a.metadata.now a.bytes.now a.state.now a.kid a.ctr a.n a.announced (told-true _ _ c.is_receiving.ensures (ap not c.if-not-is_receiving.false)) (sym c.if-too_long.false ∙ c.too_long.ensures) c.if-state-lt-STATE_SIZE.false _ c.write_first.ensures in record { value = answered.0; state_after = answered.1 }
+    let answered = check-begun (decode a.row.now) a.metadata.now a.bytes.now a.state.now a.head.kid a.head.ctr a.head.length a.announced (told-true _ _ c.is_receiving.ensures (ap not c.if-not-is_receiving.false)) (sym c.if-too_long.false ∙ c.too_long.ensures) c.if-state-lt-STATE_SIZE.false _ c.write_first.ensures in record { value = answered.0; state_after = answered.1 }

@@ -12,7 +12,7 @@ pub returns-then-not-widths_fit : goal.returns-then-not-widths_fit
 returns-then-not-widths_fit c =
     let a = c.args in
     let m = pack-wide a.s a.e a.context a.index a.epoch _ c.widths_fit.ensures (ap not c.if-not-widths_fit.true) in
-    (c.refused.ensures.0 ∙ m.0, c.refused.ensures.1 ∙ m.1)
+    m
 
 pub in_bits-requires : goal.in_bits-requires
 in_bits-requires c =
@@ -23,7 +23,7 @@ pub returns-then-not-in_bits : goal.returns-then-not-in_bits
 returns-then-not-in_bits c =
     let a = c.args in
     let m = pack-index a.s a.e a.context a.index a.epoch _ c.widths_fit.ensures (ap not c.if-not-widths_fit.false) _ c.in_bits.ensures (ap not c.if-not-in_bits.true) in
-    (c.refused-then-not-in_bits.ensures.0 ∙ m.0, c.refused-then-not-in_bits.ensures.1 ∙ m.1)
+    m
 
 pub overflow_add-width : goal.overflow_add-width
 overflow_add-width c =
@@ -44,7 +44,7 @@ pub returns-then-not-in_bits-2 : goal.returns-then-not-in_bits-2
 returns-then-not-in_bits-2 c =
     let a = c.args in
     let m = pack-context a.s a.e a.context a.index a.epoch _ c.widths_fit.ensures (ap not c.if-not-widths_fit.false) _ c.in_bits.ensures (ap not c.if-not-in_bits.false) _ c.in_bits-2.ensures (ap not c.if-not-in_bits-2.true) in
-    (c.refused-then-not-in_bits-2.ensures.0 ∙ m.0, c.refused-then-not-in_bits-2.ensures.1 ∙ m.1)
+    m
 
 pub raised-requires : goal.raised-requires
 raised-requires c =

@@ -8,4 +8,4 @@ returns-in_default c =
 
 pub returns : goal.returns
 returns c =
-    let answered = header-written c.args.head.now c.args.kid.0 _ _ c.requires.2 c.write_header.ensures.ctr_len_bound c.write_header.ensures.value _ _ _ c.next_of-ctr.ensures c.in-Length.is c.write_header.ensures.out_after in record { value = answered.0; head_after = answered.1 }
+    let answered = header-written c.args.head.now c.args.kid.0 _ _ c.requires.2 c.write_header.ensures.ctr_len_bound c.write_header.ensures.value _ _ _ c.next_of-ctr.ensures c.in-Some.is c.write_header.ensures.out_after in record { value = answered.0; head_after = answered.1 }

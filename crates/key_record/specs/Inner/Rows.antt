@@ -1,12 +1,11 @@
 -- SPDX-License-Identifier: MIT
 -- Cited by inner contracts alone: what the functions over one record's bytes answer and write, in decoded values.
 -- Assumes nothing.
-use Rattle.std.specs.Prelude.{◌≡◌, Bool, true, false, not, List, ℕ, eqb, ltb, length}
+use Rattle.std.specs.Prelude.{Some, ◌≡◌, Bool, true, false, not, List, ℕ, eqb, ltb, length}
 use Rattle.octets.specs.Octets.{both}
 use Rattle.suites.specs.Suites as Suites
 use Rattle.suites.specs.Derivation.{sframe_key, sframe_salt}
 use Rattle.suites.specs.declared.sizes.Suite.{Suite}
-use Rattle.suites.specs.declared.sizes.Found.TheVariants.{Known}
 use Rattle.window.specs.Window.{fresh as unopened}
 use Rattle.key_record.specs.Layout.{record_size, sending_mark, receiving_mark, obeys}
 use Rattle.key_record.specs.Record.{ceiling, KeyRecord, empty, sending, receiving, retired, is_empty, kid_of, counter_of}
@@ -21,7 +20,7 @@ Row l = (length l ≡ record_size) × (obeys l ≡ true)
 
 -- The suite of a number.
 abbrev pub Numbered : Suite → ℕ → Type 0
-Numbered s n = Suites.suite_of n ≡ Known s
+Numbered s n = Suites.suite_of n ≡ Some s
 
 abbrev pub kind_of : KeyRecord → Kind
 kind_of empty = Empty

@@ -20,8 +20,8 @@ key_of-key-requires c =
 
 pub decrypt-requires : goal.decrypt-requires
 decrypt-requires c =
-    let f = frame-parts c.args.suite c.args.n c.args.frame.now _ c.requires.n_le_max_header.0 c.requires.n_le_max_header.1 c.requires.metadata_len_bound.1 refl in record { key_len = (c.key_of-key.ensures.1, c.nonce_of-nonce.ensures.1); header_len_bound = (omega (arith, f.0), omega (arith, c.requires.metadata_len_bound.0), omega (arith, f.1)); suite_in_bounds = (f.2, omega (arith, f.3, c.requires.metadata_len_bound.2)) }
+    let f = frame-parts c.args.suite c.args.head.length c.args.frame.now _ c.requires.n_le_max_header.0 c.requires.n_le_max_header.1 c.requires.metadata_len_bound.1 refl in record { key_len = (c.key_of-key.ensures.1, c.nonce_of-nonce.ensures.1); header_len_bound = (omega (arith, f.0), omega (arith, c.requires.metadata_len_bound.0), omega (arith, f.1)); suite_in_bounds = (f.2, omega (arith, f.3, c.requires.metadata_len_bound.2)) }
 
 pub returns : goal.returns
 returns c =
-    let e = parts-decrypt c.args.suite c.args.n c.args.frame.now (decode c.args.row.now) _ _ _ c.args.metadata.now c.args.ctr.0 c.key_of-key.ensures.0 c.salt_of.ensures.0 c.nonce_of-nonce.ensures.0 in record { value = c.decrypt.ensures.value ∙ ap is_plain e; room_after = c.decrypt.ensures.out_after ∙ ap (λ d. room_after d c.args.room.now) e }
+    let e = parts-decrypt c.args.suite c.args.head.length c.args.frame.now (decode c.args.row.now) _ _ _ c.args.metadata.now c.args.head.ctr.0 c.key_of-key.ensures.0 c.salt_of.ensures.0 c.nonce_of-nonce.ensures.0 in record { value = c.decrypt.ensures.value ∙ ap is_plain e; room_after = c.decrypt.ensures.out_after ∙ ap (λ d. room_after d c.args.room.now) e }

@@ -1,41 +1,38 @@
 -- SPDX-License-Identifier: MIT
-use mathlib.Core.Path.{refl}
-use Rattle.pair_log.proofs.Gathering.{gather-starts, gather-room, gather-fits, gather-inserts, gather-passes, gather-ends}
-use borrow.Author.Rules.{rules}
+use Rattle.std.proofs.Common.{refl, ◌+◌, ◌≤◌, length, arith}
+use Rattle.pair_log.proofs.Gathering.{gather-starts, gather-rises, gather-fits, gather-inserts, gather-passes, gather-ends}
 use Rattle.pair_log.proofs.gather.Goals as goal
 
-pub loop-left-init : goal.loop-left-init
-loop-left-init c =
-    let a = c.args in
-    (refl, refl, gather-starts a.log.now a.n a.kids.now a.ctrs.now)
+pub loop-i-init : goal.loop-i-init
+loop-i-init c = let a = c.args in gather-starts a.log.now a.n a.found.now
 
-pub insert-found-requires : goal.insert-found-requires
-insert-found-requires c =
+pub insert-count-requires-clause-len : goal.insert-count-requires-clause-len
+insert-count-requires-clause-len c =
     let a = c.args in
-    let l = c.loop-left in
-    gather-fits a.log.now a.n l.found l.left l.kids l.ctrs a.kids.now a.ctrs.now l.invariant c.loop-left-test.true c.requires.1 c.requires.2
+    let l = c.loop-i in
+    let h : a.n ≤ length l.found + length l.found = omega arith in
+    gather-fits a.log.now a.n l.count l.i l.found l.invariant c.loop-i-test.true h
 
-pub loop-left-preserved-then-stands : goal.loop-left-preserved-then-stands
-loop-left-preserved-then-stands c =
-    let a = c.args in
-    let l = c.loop-left in (
-      search rules,
-      search rules,
-      gather-inserts a.log.now a.n l.found l.left l.kids l.ctrs l.invariant.2 c.loop-left-test.true _ refl _ _ c.read_be64-kid.ensures c.read_be64-ctr.ensures _ c.stands.ensures c.if-stands.true _ _ _ c.insert-found.ensures.0,
-    )
+pub insert-count-requires-clause-rising : goal.insert-count-requires-clause-rising
+insert-count-requires-clause-rising c =
+    let l = c.loop-i in gather-rises c.args.log.now c.args.n l.count l.i l.found l.invariant
 
-pub loop-left-preserved : goal.loop-left-preserved
-loop-left-preserved c =
+pub loop-i-preserved-then-stands : goal.loop-i-preserved-then-stands
+loop-i-preserved-then-stands c =
     let a = c.args in
-    let l = c.loop-left in (
-      l.invariant.0,
-      l.invariant.1,
-      gather-passes a.log.now a.n l.found l.left l.kids l.ctrs l.invariant.2 c.loop-left-test.true _ refl _ _ c.read_be64-kid.ensures c.read_be64-ctr.ensures _ c.stands.ensures c.if-stands.false,
-    )
+    let l = c.loop-i in
+    let h : a.n ≤ length l.found + length l.found = omega arith in
+    let f = gather-fits a.log.now a.n l.count l.i l.found l.invariant c.loop-i-test.true h in
+    gather-inserts a.log.now a.n l.count l.i l.found l.invariant c.loop-i-test.true _ refl c.first_pair-pair.result c.first_pair-pair.ensures _ c.stands.ensures c.if-stands.true _ _ c.insert-count.auto.found f c.insert-count.ensures
+
+pub loop-i-preserved : goal.loop-i-preserved
+loop-i-preserved c =
+    let a = c.args in
+    let l = c.loop-i in
+    gather-passes a.log.now a.n l.count l.i l.found l.invariant c.loop-i-test.true _ refl c.first_pair-pair.result c.first_pair-pair.ensures _ c.stands.ensures c.if-stands.false
 
 pub returns : goal.returns
 returns c =
     let a = c.args in
-    let l = c.loop-left in
-    let r = gather-room a.log.now a.n l.found l.left l.kids l.ctrs l.invariant.2 in
-    (gather-ends a.log.now a.n l.found l.left l.kids l.ctrs l.invariant.2 c.loop-left-test.false, search rules)
+    let l = c.loop-i in
+    (gather-ends a.log.now a.n l.count l.i l.found l.invariant c.loop-i-test.false, omega arith)

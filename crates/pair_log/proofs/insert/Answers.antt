@@ -1,16 +1,17 @@
 -- SPDX-License-Identifier: MIT
-use Rattle.pair_log.proofs.Gathering.{insert-old, insert-new}
-use native.Mathlib.Omega.{arith}
+use Rattle.std.proofs.Common.{arith, take, length-take-le}
+use Rattle.pair_log.proofs.Gathering.{insert_old, insert_new}
 use Rattle.pair_log.proofs.insert.Goals as goal
 
-pub returns-then-is_at : goal.returns-then-is_at
-returns-then-is_at c =
+pub returns-in_default : goal.returns-in_default
+returns-in_default c =
     let a = c.args in
-    let p = c.place-at.ensures.0 in
-    (insert-old a.kid a.ctr a.n _ a.kids.now a.ctrs.now p _ c.is_at.ensures c.if-is_at.true, omega arith)
+    let e = c.in_default.ensures in
+    (insert_old (take a.n a.found.now) a.pair c.in_default.field-0 c.requires.rising e.bound e.ok, omega arith)
 
 pub returns : goal.returns
 returns c =
     let a = c.args in
-    let p = c.place-at.ensures in
-    (insert-new a.kid a.ctr a.n _ a.kids.now a.ctrs.now p.0 _ c.is_at.ensures p.1 c.requires.0 c.requires.1 _ _ c.push.ensures c.push-2.ensures c.if-is_at.false, omega arith)
+    let e = c.in-Err.ensures in
+    let h = length-take-le a.n a.found.now (omega arith) in
+    (insert_new a.found.now a.n a.pair c.in-Err.at c.requires.len (omega (arith, e.bound, h)) _ c.rotate_right.ensures.after c.requires.rising e.position, omega arith)

@@ -1,17 +1,17 @@
 -- SPDX-License-Identifier: MIT
-use mathlib.Core.Path.{◌∙◌}
+use Rattle.std.proofs.lemmas.List.{length-map}
 use Rattle.pair_log.specs.Inner.Listed.{listed}
-use Rattle.pair_log.proofs.Gathering.{listed-length}
 use Rattle.pair_log.proofs.Writing.{listing-refused, listing-written}
 use Rattle.pair_log.proofs.write_listing.Goals as goal
 
 pub returns-then-room-size : goal.returns-then-room-size
 returns-then-room-size c =
     let a = c.args in
-    let q = listing-refused a.n a.m _ (listed a.m a.kids.now a.ctrs.now) a.room.now (listed-length a.m a.kids.now a.ctrs.now) c.listing_size-size.ensures c.if-room-size.true in
-    record { number_value = (c.refused.ensures.0 ∙ q.0.0, c.refused.ensures.1 ∙ q.0.1); room_after = q.1 }
+    let q = listing-refused a.n _ _ (listed a.found.now) a.room.now (simp length-map) c.listing_size-size.ensures c.if-room-size.true in
+    record { number_value = q.0; room_after = q.1 }
 
 pub returns : goal.returns
 returns c =
     let a = c.args in
-    let answered = listing-written a.n a.m _ (listed a.m a.kids.now a.ctrs.now) a.room.now (listed-length a.m a.kids.now a.ctrs.now) c.listing_size-size.ensures _ _ _ _ _ c.if-room-size.false c.write_count-second.ensures.0 c.write_count-second.ensures.1 c.write_count-third.ensures.0 c.write_count-third.ensures.1 c.write_pairs.ensures in record { number_value = answered.0; room_after = answered.1 }
+    let q = listing-written a.n _ _ (listed a.found.now) a.room.now (simp length-map) c.listing_size-size.ensures _ _ _ _ _ c.if-room-size.false c.write_count-second.ensures.0 c.write_count-second.ensures.1 c.write_count-third.ensures.0 c.write_count-third.ensures.1 c.write_pairs.ensures in
+    record { number_value = q.0; room_after = q.1 }

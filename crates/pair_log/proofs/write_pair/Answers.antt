@@ -5,4 +5,4 @@ use Rattle.pair_log.proofs.write_pair.Goals as goal
 pub returns : goal.returns
 returns c =
     let a = c.args in
-    pair-written a.out.now _ _ a.at a.kid a.ctr c.ranges.ctr.fits c.requires c.write_number.ensures c.write_number-2.ensures
+    pair-written a.out.now _ _ a.at a.pair.kid a.pair.ctr a.pair.fits c.requires c.write_number.ensures c.write_number-2.ensures

@@ -1,5 +1,5 @@
 -- SPDX-License-Identifier: MIT
-use mathlib.Core.Path.{refl, ◌∙◌}
+use mathlib.Core.Path.{refl}
 use Rattle.pair_log.proofs.Writing.{written-refused, written-done}
 use Rattle.pair_log.proofs.write_text.Goals as goal
 
@@ -7,7 +7,7 @@ pub returns-then-room-text : goal.returns-then-room-text
 returns-then-room-text c =
     let a = c.args in
     let q = written-refused a.text.now a.room.now _ refl c.if-room-text.true in
-    record { number_value = (c.refused.ensures.0 ∙ q.0.0, c.refused.ensures.1 ∙ q.0.1); room_after = q.1 }
+    record { number_value = q.0; room_after = q.1 }
 
 pub returns : goal.returns
 returns c =

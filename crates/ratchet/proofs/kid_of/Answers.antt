@@ -1,5 +1,4 @@
 -- SPDX-License-Identifier: MIT
-use mathlib.Core.Path.{◌∙◌}
 use native.Mathlib.Omega.{arith}
 use Rattle.ratchet.proofs.Steps.{kid-no-bits, kid-many-bits, kid-too-long, kid-product, kid-sum, kid-made, window-some}
 use Rattle.ratchet.proofs.kid_of.Goals as goal
@@ -7,20 +6,17 @@ use Rattle.ratchet.proofs.kid_of.Goals as goal
 pub returns-then-bits-lt1 : goal.returns-then-bits-lt1
 returns-then-bits-lt1 c =
     let a = c.args in
-    let m = kid-no-bits a.generation a.step a.bits c.if-bits-lt1.true in
-    (c.kid_refused.ensures.0 ∙ m.0, c.kid_refused.ensures.1 ∙ m.1)
+    kid-no-bits a.generation a.step a.bits c.if-bits-lt1.true
 
 pub returns-then-bits-gt-MAX_BITS : goal.returns-then-bits-gt-MAX_BITS
 returns-then-bits-gt-MAX_BITS c =
     let a = c.args in
-    let m = kid-many-bits a.generation a.step a.bits c.if-bits-lt1.false c.if-bits-gt-MAX_BITS.true in
-    (c.kid_refused-then-bits-gt-MAX_BITS.ensures.0 ∙ m.0, c.kid_refused-then-bits-gt-MAX_BITS.ensures.1 ∙ m.1)
+    kid-many-bits a.generation a.step a.bits c.if-bits-lt1.false c.if-bits-gt-MAX_BITS.true
 
 pub returns-then-power-generation : goal.returns-then-power-generation
 returns-then-power-generation c =
     let a = c.args in
-    let m = kid-too-long a.generation a.step a.bits c.if-bits-lt1.false c.if-bits-gt-MAX_BITS.false c.power.result c.power.ensures c.if-power-generation.true in
-    (c.kid_refused-then-power-generation.ensures.0 ∙ m.0, c.kid_refused-then-power-generation.ensures.1 ∙ m.1)
+    kid-too-long a.generation a.step a.bits c.if-bits-lt1.false c.if-bits-gt-MAX_BITS.false c.power.result c.power.ensures c.if-power-generation.true
 
 pub overflow_mul-kid : goal.overflow_mul-kid
 overflow_mul-kid c =

@@ -20,22 +20,22 @@ next_key-requires c =
     let a = c.args in
     (c.requires.0, c.requires.1 ∙ size-some a.suite (length a.base.now) a.steps c.if-steps-eq0.false)
 
-pub loop-i-init : goal.loop-i-init
-loop-i-init c =
+pub loop-init : goal.loop-init
+loop-init c =
     let a = c.args in
     walk-starts a.suite a.base.now _ a.steps c.if-steps-eq0.false c.next_key.ensures
 
-pub loop-i-preserved : goal.loop-i-preserved
-loop-i-preserved c =
+pub loop-preserved : goal.loop-preserved
+loop-preserved c =
     let a = c.args in
-    walk-goes-on a.suite a.base.now c.loop-i.out _ a.steps c.loop-i.i c.loop-i.invariant c.loop-i-test.true c.step.ensures
+    walk-goes-on a.suite a.base.now c.loop.out _ a.steps c.loop.counter c.loop.invariant c.loop-test.true c.step.ensures
 
 pub shape_of-out : goal.shape_of-out
 shape_of-out c =
     let a = c.args in
-    c.loop-i.invariant.3 ∙ sym (c.requires.1 ∙ size-some a.suite (length a.base.now) a.steps c.if-steps-eq0.false)
+    c.loop.invariant.3 ∙ sym (c.requires.1 ∙ size-some a.suite (length a.base.now) a.steps c.if-steps-eq0.false)
 
 pub returns : goal.returns
 returns c =
     let a = c.args in
-    walk_ends a.suite a.base.now c.loop-i.out a.steps c.loop-i.i c.loop-i.invariant c.loop-i-test.false
+    walk_ends a.suite a.base.now c.loop.out a.steps c.loop.counter c.loop.invariant c.loop-test.false

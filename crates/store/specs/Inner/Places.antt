@@ -1,15 +1,13 @@
 -- SPDX-License-Identifier: MIT
 -- Cited by inner contracts alone: a store's records by number, and their bytes.
 -- Assumes nothing.
-use Rattle.std.specs.Prelude.{◌≡◌, Bool, true, false, List, [], ◌∷◌, ◌++◌, ℕ, zero, suc, ◌/◌, ◌%◌, ◌<◌, eqb, length, get_or, take, drop}
+use Rattle.std.specs.Prelude.{Option, Some, None, ◌≡◌, Bool, true, false, List, [], ◌∷◌, ◌++◌, ℕ, zero, suc, ◌/◌, ◌%◌, ◌<◌, eqb, length, get_or, take, drop}
 use Rattle.key_record.specs.Layout.{record_size, decode, obeys}
 use Rattle.octets.specs.Octets.{pick, both}
 use Rattle.key_record.specs.Record.{KeyRecord, empty, holds, in_order}
 use Rattle.key_record.specs.Inner.Rows.{Row, precedes}
 use Rattle.store.specs.Store.{records, sound}
 use Rattle.store.specs.Table.{get, full}
-use Rattle.store.specs.declared.Place.{Place}
-use Rattle.store.specs.declared.Place.TheVariants.{At, Nowhere}
 
 -- Whole records.
 abbrev pub Whole : List ℕ → Type 0
@@ -34,9 +32,9 @@ abbrev pub Within : List ℕ → ℕ → Type 0
 Within s i = (sound s ≡ true) × (i < length (records s))
 
 -- What is found of a KID: the number of the record that holds it, or that none does.
-abbrev pub FoundIn : (place : Place) (kid : ℕ) (rs : List KeyRecord) → Type 0
-FoundIn (At i) kid rs = (i < length rs) × (get kid rs ≡ get_or rs i empty) × (holds kid (get_or rs i empty) ≡ true)
-FoundIn Nowhere kid rs = get kid rs ≡ empty
+abbrev pub FoundIn : (place : Option ℕ) (kid : ℕ) (rs : List KeyRecord) → Type 0
+FoundIn (Some i) kid rs = (i < length rs) × (get kid rs ≡ get_or rs i empty) × (holds kid (get_or rs i empty) ≡ true)
+FoundIn None kid rs = get kid rs ≡ empty
 
 -- The bytes of record i of a store.
 abbrev pub RowOf : (s : List ℕ) (i : ℕ) (l : List ℕ) → Type 0

@@ -1,15 +1,7 @@
 -- SPDX-License-Identifier: MIT
-use mathlib.Core.Path.{◌≡◌}
-use Prim.Native.Nat.{◌-◌, ◌/◌, ◌%◌, ◌≤◌}
-use lib.ListN.{length, drop}
-use Rattle.tracks.specs.Tracks.{decode_all}
-use Rattle.tracks.specs.Table.{get}
-use Rattle.track_record.specs.Layout.{record_size}
 use Rattle.track_record.specs.Record.{track_id}
+use Rattle.tracks.proofs.Walk.{Finding}
 use Rattle.tracks.proofs.find.Given as goal
 
-abbrev pub invariant-loop-at : goal.invariant-loop-at
-invariant-loop-at l = (l.at ≤ length l.store) × (l.at % record_size ≡ 0) × (get (track_id l.name l.id.0) (decode_all (length l.store / record_size) l.store) ≡ get (track_id l.name l.id.0) (decode_all ((length l.store - l.at) / record_size) (drop l.at l.store)))
-
-abbrev pub decreases-loop-at : goal.decreases-loop-at
-decreases-loop-at l = length l.store - l.at
+abbrev pub invariant-loop-i : goal.invariant-loop-i
+invariant-loop-i l = Finding (track_id l.name l.id.0) l.store l.i

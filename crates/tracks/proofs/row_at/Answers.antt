@@ -1,17 +1,17 @@
 -- SPDX-License-Identifier: MIT
-use mathlib.Core.Path.{refl}
-use native.Mathlib.Omega.{arith}
+use Rattle.std.proofs.Common.{◌≡◌, ◌∙◌, sym, ap, subst, refl, ℕ, ◌+◌, ◌*◌, ◌-◌, take, drop, arith}
+use Rattle.tracks.specs.Inner.Places.{RowOf}
+use Rattle.track_record.specs.Layout.{record_size}
 use Rattle.tracks.proofs.Places.{place_inside, place-row}
 use Rattle.tracks.proofs.row_at.Goals as goal
 
-pub overflow_mul-at : goal.overflow_mul-at
-overflow_mul-at c = omega (arith, place_inside c.args.store.now c.args.i c.requires)
-
-pub overflow_add-end : goal.overflow_add-end
-overflow_add-end c = omega (arith, place_inside c.args.store.now c.args.i c.requires)
-
-pub slice_bounds-result-end : goal.slice_bounds-result-end
-slice_bounds-result-end c = omega (arith, place_inside c.args.store.now c.args.i c.requires)
+pub part-requires : goal.part-requires
+part-requires c = omega (arith, place_inside c.args.store.now c.args.i c.requires)
 
 pub returns : goal.returns
-returns c = place-row c.args.store.now c.args.i c.requires _ refl
+returns c =
+    let a = c.args in
+    let at = a.i * record_size in
+    let e : at + record_size - at ≡ record_size = omega arith in
+    let f = ap (λ (k : ℕ). take k (drop at a.store.now)) e ∙ sym c.part.ensures.0 in
+    subst (RowOf a.store.now a.i) f (place-row a.store.now a.i c.requires _ refl)

@@ -1,21 +1,19 @@
 -- SPDX-License-Identifier: MIT
-use mathlib.Core.Path.{refl}
-use native.Mathlib.Omega.{arith}
+use Rattle.std.proofs.Common.{◌∙◌, ap}
+use Rattle.track_record.specs.Layout.{obeys}
 use Rattle.tracks.proofs.Walk.{obey-stop, obey-go, obey-start, obey-end}
-use mathlib.Core.Bool.{not}
-use mathlib.Core.Path.{ap}
 use Rattle.tracks.proofs.rows_obey.Goals as goal
 
-pub loop-at-init : goal.loop-at-init
-loop-at-init c = (omega arith, refl, obey-start c.args.store.now)
+pub loop-i-init : goal.loop-i-init
+loop-i-init c = obey-start c.args.store.now
 
 pub returns-then-not-obeys_layout : goal.returns-then-not-obeys_layout
 returns-then-not-obeys_layout c =
-    obey-stop c.args.store.now c.loop-at.at _ c.requires c.loop-at-test.true c.loop-at.invariant.1 refl _ c.obeys_layout.ensures (ap not c.if-not-obeys_layout.true) c.loop-at.invariant.2
+    obey-stop c.args.store.now c.loop-i.i c.loop-i-test.true _ (c.obeys_layout.ensures ∙ ap obeys c.part.ensures.0) c.loop-i.invariant c.if-not-obeys_layout.true
 
-pub loop-at-preserved : goal.loop-at-preserved
-loop-at-preserved c =
-    (omega arith, omega arith, obey-go c.args.store.now c.loop-at.at _ c.requires c.loop-at-test.true c.loop-at.invariant.1 refl _ c.obeys_layout.ensures (ap not c.if-not-obeys_layout.false) c.loop-at.invariant.2)
+pub loop-i-preserved : goal.loop-i-preserved
+loop-i-preserved c =
+    obey-go c.args.store.now c.loop-i.i c.loop-i-test.true _ (c.obeys_layout.ensures ∙ ap obeys c.part.ensures.0) c.loop-i.invariant c.if-not-obeys_layout.false
 
 pub returns : goal.returns
-returns c = obey-end c.args.store.now c.loop-at.at (omega arith) c.loop-at.invariant.2
+returns c = obey-end c.args.store.now c.loop-i.i c.loop-i-test.false c.loop-i.invariant

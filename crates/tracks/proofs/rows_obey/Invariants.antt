@@ -1,13 +1,6 @@
 -- SPDX-License-Identifier: MIT
-use mathlib.Core.Path.{◌≡◌}
-use Prim.Native.Nat.{◌-◌, ◌/◌, ◌%◌, ◌≤◌}
-use lib.ListN.{length, drop}
-use Rattle.tracks.specs.Tracks.{all_obey}
-use Rattle.track_record.specs.Layout.{record_size}
+use Rattle.tracks.proofs.Walk.{Obeying}
 use Rattle.tracks.proofs.rows_obey.Given as goal
 
-abbrev pub invariant-loop-at : goal.invariant-loop-at
-invariant-loop-at l = (l.at ≤ length l.store) × (l.at % record_size ≡ 0) × (all_obey (length l.store / record_size) l.store ≡ all_obey ((length l.store - l.at) / record_size) (drop l.at l.store))
-
-abbrev pub decreases-loop-at : goal.decreases-loop-at
-decreases-loop-at l = length l.store - l.at
+abbrev pub invariant-loop-i : goal.invariant-loop-i
+invariant-loop-i l = Obeying l.store l.i

@@ -13,4 +13,4 @@ returns-in_default c =
 
 pub returns : goal.returns
 returns c =
-    suite-told c.args.row.now (λ j. omega (arith, c.shared_slice_known-1.given j)) c.requires.0 _ _ c.requires.1 c.find.ensures c.in-Known.is
+    suite-told c.args.row.now (λ j. omega (arith, c.shared_slice_known-1.given j)) c.requires.0 _ _ c.requires.1 c.find.ensures c.in-Some.is

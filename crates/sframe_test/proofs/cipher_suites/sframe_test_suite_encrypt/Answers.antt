@@ -4,9 +4,9 @@
 use mathlib.Core.Path.{refl, sym, ◌∙◌}
 use Rattle.sframe_test.proofs.cipher_suites.sframe_test_suite_encrypt.Goals as goal
 
-pub returns-in-Known : goal.returns-in-Known
-returns-in-Known c =
-    rw (sym c.find.ensures ∙ c.in-Known.is) c.encrypt_known.ensures
+pub returns-in-Some : goal.returns-in-Some
+returns-in-Some c =
+    rw (sym c.find.ensures ∙ c.in-Some.is) c.encrypt_known.ensures
 
-pub returns-in-Unknown : goal.returns-in-Unknown
-returns-in-Unknown c = rw (sym c.find.ensures ∙ c.in-Unknown.is) (refl, refl)
+pub returns-in-None : goal.returns-in-None
+returns-in-None c = rw (sym c.find.ensures ∙ c.in-None.is) (refl, refl)
