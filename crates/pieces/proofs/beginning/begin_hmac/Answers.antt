@@ -17,7 +17,7 @@ feed-front-requires c =
     let e-feed = c.feed.ensures.1 in
     let e-feed2 = c.feed-2.ensures.1 in
     let g : c.feed-2.result.len + length c.args.nonce.now ≤ 4294967296 = omega arith in
-    g
+    (omega arith, g)
 
 pub feed-requires-3 : goal.feed-requires-3
 feed-requires-3 c =
@@ -28,7 +28,7 @@ feed-requires-3 c =
     let e-feed2 = c.feed-2.ensures.1 in
     let e-feed3 = c.feed-front.ensures.1 in
     let g : c.feed-front.result.len + length c.args.header.now ≤ 4294967296 = omega arith in
-    g
+    (omega arith, g)
 
 pub feed-requires-4 : goal.feed-requires-4
 feed-requires-4 c =
@@ -40,7 +40,7 @@ feed-requires-4 c =
     let e-feed3 = c.feed-front.ensures.1 in
     let e-feed4 = c.feed-3.ensures.1 in
     let g : c.feed-3.result.len + length c.args.metadata.now ≤ 4294967296 = omega arith in
-    g
+    (omega arith, g)
 
 pub save-requires : goal.save-requires
 save-requires c =
