@@ -1,20 +1,20 @@
 -- SPDX-License-Identifier: MIT
 -- Running hashes in bytes: read back, fed twice, ended. Assumes nothing.
 use mathlib.Core.Path.{◌≡◌, refl, sym, ◌∙◌, ap, ap₂}
-use mathlib.Core.List.{List, [], ◌∷◌, ◌++◌, append-nil, append_assoc}
+use mathlib.Core.List.{List, [], ◌∷◌, ◌++◌, append_assoc}
 use Prim.Native.Nat.{ℕ, zero, suc, ◌+◌, ◌*◌, ◌/◌, ◌%◌, ◌-◌, ◌^◌, ◌<◌, ◌≤◌}
 use native.Mathlib.Nat.{zero-add, mod-eq_of_lt, mod-lt, zero-mul, one-mul, div-le_self, lt_of_le_of_lt}
 use borrow.Author.Tests.{ltb-true}
 use native.Mathlib.Omega.{arith}
-use lib.Bits.{bit_xor, xor_lt}
-use lib.ListN.{length, get_or, take, drop, replicate, length-append, length-drop, length-take, length-replicate, take-append-drop}
+use lib.Bits.{xor_lt}
+use lib.ListN.{length, get_or, take, drop, replicate, length-append, length-replicate, take-append-drop}
 use lib.Seq.{take_at, drop_at, take_all, take-take, take-append-le, drop-append-add, drop-drop, length-take-le, get_or-drop}
 use Rattle.octets.specs.Octets.{number, bytes}
 use Rattle.octets.proofs.Laws.{number_append, number-bytes, bytes-length}
-use Rattle.sha2_common.specs.Sha2.{Params, adds, add, compress, chain, run, words, joined, hash}
+use Rattle.sha2_common.specs.Sha2.{adds, compress, chain, run, words, joined, hash}
 use Rattle.sha2_common.specs.Sizes.{sha256, initial256}
 use Rattle.sha2_common.specs.Running.{State, left, room_of, waits, fresh, fed, finished}
-use Rattle.sha2_common.proofs.Laws.{run-append, run-whole, whole, whole_length, waits-fed, left-length, adds-length, chain_length, joined_length, words-of-256, fed-none, fed-more, fed-end}
+use Rattle.sha2_common.proofs.Laws.{run-append, run-whole, whole, whole_length, waits-fed, left-length, chain_length, joined_length, words-of-256, fed-none, fed-more, fed-end}
 use Rattle.ghash.specs.Ghash.{R, halve, sum, product, absorb_blocks, absorb}
 use Rattle.piece_hash.specs.Held.{room_in, held, kept, fed_hash, digest_of, kept_block, absorb_whole, left_over, fed_blocks, blocks_of}
 use Rattle.piece_hash.proofs.Blocks as Blocks

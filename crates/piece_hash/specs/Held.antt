@@ -1,7 +1,7 @@
 -- SPDX-License-Identifier: MIT
 -- Running hashes held in 96 bytes: a value in 32 bytes, and a room of 64 for the bytes that wait for the rest of their block.
 -- Assumes nothing.
-use Rattle.std.specs.Prelude.{List, [], ◌∷◌, ◌++◌, ℕ, ◌+◌, ◌*◌, ◌/◌, length, take, drop, replicate}
+use Rattle.std.specs.Prelude.{List, ◌++◌, ℕ, ◌+◌, ◌*◌, ◌/◌, length, take, drop, replicate}
 use Rattle.octets.specs.Octets.{number, bytes}
 use Rattle.sha2_common.specs.Sha2.{words, joined}
 use Rattle.sha2_common.specs.Sizes.{sha256}

@@ -1,5 +1,5 @@
 -- SPDX-License-Identifier: MIT
-use Rattle.std.proofs.Common.{◌-◌, ◌++◌, length, sym, ◌∙◌, arith, length-append, length-take}
+use Rattle.std.proofs.Common.{◌-◌, ◌++◌, length, sym, ◌∙◌, arith, length-append}
 use Rattle.sha2_common.proofs.Laws.{run_short, run_none}
 use Rattle.sha2_common.proofs.Steps.{absorbed}
 use Rattle.sha2_common.proofs.running.absorb.Goals as goal

@@ -1,6 +1,6 @@
 -- SPDX-License-Identifier: MIT
-use Rattle.std.proofs.Common.{◌≡◌, ◌*◌, length, get_or, take, drop, sym, ap, ◌∙◌, refl, arith}
-use Rattle.sha2_common.specs.Sha2.{run, compress}
+use Rattle.std.proofs.Common.{◌≡◌, ◌*◌, get_or, take, drop, sym, ap, ◌∙◌, refl, arith}
+use Rattle.sha2_common.specs.Sha2.{compress}
 use Rattle.sha2_common.proofs.Laws.{run_short}
 use Rattle.sha2_common.proofs.Steps.{run-chunk, chunk-at, chunk-within, chunks-end}
 use Rattle.sha2_common.proofs.running.blocks.Goals as goal

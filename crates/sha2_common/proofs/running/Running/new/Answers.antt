@@ -1,6 +1,5 @@
 -- SPDX-License-Identifier: MIT
-use Rattle.std.proofs.Common.{◌≡◌, refl, arith}
-use Rattle.sha2_common.specs.Running.{fresh}
+use Rattle.std.proofs.Common.{refl, arith}
 use Rattle.sha2_common.proofs.Laws.{fed-none}
 use Rattle.sha2_common.proofs.Steps.{fresh-with}
 use Rattle.sha2_common.proofs.running.Running.new.Goals as goal
