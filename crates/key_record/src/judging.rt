@@ -20,10 +20,7 @@ const BLOCK: usize = 16;
 fn is_suite(n: u8) -> bool
     ensures { result ≡ is_suite n }
 {
-    match suites::sizes::find(n as u64) {
-        Some(_) => true,
-        None => false,
-    }
+    suites::sizes::find(n as u64).is_some()
 }
 
 // Whether every byte is zero.
@@ -31,10 +28,8 @@ fn is_zero(b: &[u8]) -> bool
     ensures { result ≡ same (replicate (length b.now) 0) b.now }
 {
     let mut any: u8 = 0;
-    let mut i = 0;
-    while i < b.len() {
-        any = any | b[i];
-        i += 1;
+    for x in b {
+        any |= *x;
     }
     any == 0
 }
@@ -44,13 +39,7 @@ fn zero_block(row: &[u8], from: usize) -> bool
     requires { from + block ≤ length row.now }
     ensures { result ≡ zero_in from block row.now }
 {
-    let mut any: u8 = 0;
-    let mut i = 0;
-    while i < BLOCK {
-        any = any | row[from + i];
-        i += 1;
-    }
-    any == 0
+    is_zero(&row[from..from + BLOCK])
 }
 
 // Whether salt and key are wiped, as a retired record's are.
