@@ -3,13 +3,11 @@
 #![tactic(auto)]
 
 ghost use Rattle.std.specs.Prelude.{◌≡◌};
+ghost use Rattle.answers.specs.Refusals.{number_of};
 ghost use Rattle.track_record.specs.Record.{track_id};
 ghost use Rattle.add_track.specs.Add.{barred, add};
 
-use answers::{
-    BASE_KEY_SIZE, DONE, INPUT_TOO_LONG, KID_HELD, MAX_BASE_KEY, MIN_BASE_KEY, SENDING_BARRED,
-    STORE_FULL, STORE_INVALID, SUITE_UNKNOWN,
-};
+use answers::{MAX_BASE_KEY, MIN_BASE_KEY, Refusal};
 use secure_objects::{KeyId, MAX_NAME};
 use suites::sizes::Aes128CtrHmacSha256Tag32;
 use track_record::Role;
@@ -25,34 +23,30 @@ fn is_barred(role: Role, suite: u64) -> bool
 }
 
 // Adds a track: the lowest-numbered empty record holds what the suite derives from the base key for a name and a Key ID.
-pub fn add(store: &mut [u8], role: Role, name: &[u8], id: KeyId, suite: u64, base: &[u8]) -> u32
-    ensures value { result ≡ (add store.old role (track_id name.now id.0) suite base.now).number }
+pub fn add(store: &mut [u8], role: Role, name: &[u8], id: KeyId, suite: u64, base: &[u8]) -> Result<(), Refusal>
+    ensures value { number_of result ≡ (add store.old role (track_id name.now id.0) suite base.now).number }
     ensures store_after { store.new ≡ (add store.old role (track_id name.now id.0) suite base.now).store }
 {
     if !tracks::is_sound(store) {
-        return STORE_INVALID;
+        return Err(Refusal::StoreInvalid);
     }
-    let Some(known) = suites::sizes::find(suite) else {
-        return SUITE_UNKNOWN;
-    };
+    let known = suites::sizes::find(suite).ok_or(Refusal::SuiteUnknown)?;
     if is_barred(role, suite) {
-        return SENDING_BARRED;
+        return Err(Refusal::SendingBarred);
     }
     if base.len() < MIN_BASE_KEY {
-        return BASE_KEY_SIZE;
+        return Err(Refusal::BaseKeySize);
     }
     if MAX_BASE_KEY < base.len() {
-        return BASE_KEY_SIZE;
+        return Err(Refusal::BaseKeySize);
     }
     if MAX_NAME < name.len() {
-        return INPUT_TOO_LONG;
+        return Err(Refusal::InputTooLong);
     }
     let None = tracks::find(store, name, id) else {
-        return KID_HELD;
+        return Err(Refusal::KidHeld);
     };
-    let Some(i) = tracks::find_free(store) else {
-        return STORE_FULL;
-    };
+    let i = tracks::find_free(store).ok_or(Refusal::StoreFull)?;
     tracks::fill_at(store, i, role, known, name, id, base);
-    DONE
+    Ok(())
 }

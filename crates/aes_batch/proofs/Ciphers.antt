@@ -1,12 +1,13 @@
 -- SPDX-License-Identifier: MIT
 -- Laws of the rounds on sixteen blocks.
 -- Assumes nothing.
-use mathlib.Core.Path.{◌≡◌, refl, sym, ◌∙◌, ap}
-use mathlib.Core.List.{List, [], ◌∷◌}
-use Prim.Native.Nat.{ℕ, zero, suc, ◌+◌, ◌*◌, ◌-◌, ◌≤◌, ◌<◌}
-use native.Mathlib.Numerals.{add-one}
+use mathlib.Core.Path.{◌≡◌, refl, ◌∙◌, ap}
+use mathlib.Core.List.{List}
+use Prim.Native.Nat.{ℕ, zero, suc, ◌+◌, ◌*◌, ◌-◌, ◌<◌}
 use native.Mathlib.Omega.{arith}
-use lib.ListN.{length, take, drop}
+use lib.ListN.{length, get_or, take, drop}
+use lib.Seq.{drop-drop}
+use Rattle.std.specs.Simd.{first_chunks}
 use Rattle.aes.specs.Aes.{Nr, key_expansion, rounds}
 use Rattle.aes.proofs.Expansion.{rounds-step, encrypted}
 use Rattle.aes_rows.specs.Rows.{state_planes, Each, Substituting, Adding}
@@ -15,6 +16,14 @@ use Rattle.aes_rows.specs.Blocks.{state}
 use Rattle.aes_rows.proofs.Rounds16.{round, last-round, key-added}
 use Rattle.aes_keys.specs.Inner.Keys.{Context, planes_at}
 use Rattle.aes_batch.specs.Inner.Batch.{batch_blocks, Encrypted}
+
+-- Round key r, as the part of a context that it is.
+pub key-part : (r k : ℕ) (ctx d : List ℕ) → r < k → get_or (first_chunks 32 k ctx) r d ≡ planes_at ctx r
+key-part r zero ctx d h = absurd (omega arith)
+key-part zero (suc k) ctx d h = refl
+key-part (suc r) (suc k) ctx d h =
+    let e : 32 + 32 * r ≡ 32 * suc r = omega arith in
+    key-part r k (drop 32 ctx) d (omega arith) ∙ ap (take 32) (drop-drop (32 * r) 32 ctx ∙ ap (λ (n : ℕ). drop n ctx) e)
 
 -- The states after the rounds 1 to r.
 pub record Rounded (key q : List ℕ) (r : ℕ) (t : List ℕ) : Type 0 where

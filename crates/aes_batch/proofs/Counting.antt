@@ -3,26 +3,24 @@
 -- Assumes nothing.
 use mathlib.Core.Path.{◌≡◌, refl, sym, ◌∙◌, ap, ap₂}
 use mathlib.Core.Bool.{Bool, true, false}
-use mathlib.Core.List.{List, [], ◌∷◌, ◌++◌}
-use Prim.Native.Nat.{ℕ, zero, suc, ◌+◌, ◌*◌, ◌-◌, ◌/◌, ◌%◌, ◌^◌, ◌≤◌, ◌<◌, min}
-use native.Mathlib.Nat.{div-add-mod', min-zero, zero-add}
+use mathlib.Core.List.{List, [], ◌∷◌}
+use Prim.Native.Nat.{ℕ, ◌+◌, ◌*◌, ◌-◌, ◌/◌, ◌%◌, ◌<◌, min}
+use native.Mathlib.Nat.{min-zero}
 use native.Mathlib.Omega.{arith}
 use borrow.Author.Tests.{lt-ltb, le-ltb, ne_eqb}
 use lib.Bits.{bit_xor, bit_and, xor_block, xor_zero_l, xor_zero_r}
 use lib.Dec.{T, eqb, eqb→eq, ltb}
-use lib.ListN.{length, get_or, drop, replicate}
+use lib.ListN.{get_or, drop, replicate}
 use Rattle.octets.specs.Octets.{number, pick}
 use Rattle.octets.proofs.Entries.{all, entry-rule}
-use Rattle.aes.specs.Aes.{word, byte, columns}
-use Rattle.aes.proofs.Words.{byte-3}
+use Rattle.aes.specs.Aes.{word}
 use Rattle.bitslice.specs.declared.Planes.{Planes}
 use Rattle.bitslice.specs.Lanes.{lane, byte_of, lane_byte, Sum}
 use Rattle.bitslice.proofs.Bits.{lane-bit, lane_and}
-use Rattle.bitslice.proofs.RowSums.{lane-byte-lt}
 use Rattle.aes_rows.specs.Rows.{row_at, RowSet, Each}
 use Rattle.aes_rows.specs.Blocks.{place, column, state}
 use Rattle.aes_keys.specs.Inner.Keys.{Filled}
-use Rattle.aes_batch.specs.Inner.Batch.{batch_blocks, number_of, Numbers, Numbered, Counters, Cleared, Clearing}
+use Rattle.aes_batch.specs.Inner.Batch.{batch_blocks, number_of, Numbered, Counters, Cleared, Clearing}
 
 -- ---- the numbers of the blocks, tested on each lane
 

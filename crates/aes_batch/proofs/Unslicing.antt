@@ -2,20 +2,19 @@
 -- Laws of planes that become bytes.
 -- Assumes nothing.
 use mathlib.Core.Path.{◌≡◌, refl, sym, ◌∙◌, ap, ap₂}
-use mathlib.Core.List.{List, [], ◌∷◌, ◌++◌, append_assoc, append-nil}
+use mathlib.Core.List.{List, ◌++◌, append_assoc, append-nil}
 use Prim.Native.Nat.{ℕ, zero, suc, ◌+◌, ◌*◌, ◌-◌, ◌/◌, ◌%◌, ◌^◌, ◌≤◌, ◌<◌}
 use mathlib.Core.Logic.{◌⊎◌, inl, inr, ⊎_elim}
-use native.Mathlib.Nat.{eq-or-lt_of_le, le_of_suc-le-suc, mod-lt, mod-eq_of_lt}
+use native.Mathlib.Nat.{eq-or-lt_of_le, le_of_suc-le-suc, mod-lt}
 use native.Mathlib.Numerals.{add-one}
 use native.Mathlib.Omega.{arith}
 use borrow.Author.Count.{below_more}
 use borrow.Rule.Slice.PartMut.{put_mid}
 use lib.ListN.{length, get_or, set, take, drop, length-set, length-append, length-drop, drop_of_length-le}
-use lib.Seq.{get_or-set_same, get_or-set_other, take_at, drop_at, take-append-le, drop-append-le, take_all, take-add, drop-drop}
+use lib.Seq.{get_or-set_same, get_or-set_other, drop_at, take-append-le, drop-append-le, take_all}
 use Rattle.octets.specs.Octets.{bytes, pasted}
 use Rattle.octets.proofs.Laws.{bytes-length, bytes-add, bytes-mod, lent-bytes, pasted-append, pasted-front, pasted_length}
-use Rattle.aes.specs.Aes.{block_size, word, columns, block_of}
-use Rattle.bitslice.specs.declared.Planes.{Planes}
+use Rattle.aes.specs.Aes.{block_size, word, block_of}
 use Rattle.bitslice.specs.Lanes.{lane_byte}
 use Rattle.bit_transpose.specs.Transposition as transposition
 use Rattle.bit_transpose.specs.Transposition.{octet, words_of, Transposed}

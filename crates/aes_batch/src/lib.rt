@@ -10,11 +10,11 @@ ghost use Rattle.std.specs.Prelude.{◌≡◌, ◌++◌, ◌+◌, ◌*◌, ◌%�
 ghost use Rattle.bit_transpose.specs.Transposition.{Transposed};
 ghost use Rattle.aes_rows.specs.Rows.{Each};
 ghost use Rattle.aes_keys.specs.Inner.Keys.{Ready, key_of, rounds_at, size};
-ghost use Rattle.aes_batch.specs.Inner.Batch.{Numbers, Numbered, Cleared, Clearing, Transposing, Counters, Encrypted, Gathered, word_bytes, Unsliced, Blocks, counters_of, front_of};
+ghost use Rattle.aes_batch.specs.Inner.Batch.{Numbers, Numbered, Cleared, Clearing, Transposing, Counters, Encrypted, Gathered, word_bytes, Unsliced, Enciphered, Blocks, counters_of, front_of};
 
 use aes::BLOCK;
 use aes_keys::Context;
-use aes_rows::PLANES;
+use aes_rows::{PLANES, Rows};
 use bitslice::Planes;
 
 // The blocks of a batch, and their bytes.
@@ -26,8 +26,7 @@ pub const BYTES: usize = BLOCK * BLOCKS;
 pub type Batch = [u8; BYTES];
 
 // Adds to the last column of each block its number. The lane of block m is m / 2, and 8 more where m is odd.
-fn number(q: &mut [u64])
-    requires { length q.old ≡ 32 }
+fn number(q: &mut Rows)
     ensures { Numbered q.old q.new }
 {
     let n = Planes {
@@ -45,8 +44,8 @@ fn number(q: &mut [u64])
 }
 
 // The counter blocks of a nonce, from a block count on.
-fn counters(q: &mut [u64], nonce: &[u8], count: u32)
-    requires { (length q.old ≡ 32) × (length nonce.now ≡ 12) × (count % 16 ≡ 0) }
+fn counters(q: &mut Rows, nonce: &[u8], count: u32)
+    requires { (length nonce.now ≡ 12) × (count % 16 ≡ 0) }
     ensures { Counters nonce.now count q.new }
 {
     let a = octets::read_be32(nonce);
@@ -73,85 +72,62 @@ fn without_first(a: Planes) -> Planes
 }
 
 // Makes block 0 the block of zeros.
-fn clear_first(q: &mut [u64])
-    requires { length q.old ≡ 32 }
+fn clear_first(q: &mut Rows)
     ensures { Each Clearing 4 q.old q.new }
 {
-    let mut r = 0;
-    while r < 4 {
-        let p = without_first(aes_rows::load_row(q, r));
-        aes_rows::store_row(q, r, p);
-        r += 1;
-    }
+    aes_rows::each_row(q, |_r: usize, a: Planes| without_first(a));
 }
 
 // The encryption of sixteen states (FIPS 197 §5.1).
-fn encrypt(ctx: &[u64], q: &mut [u64])
-    requires { (Ready ctx.now) × (length q.old ≡ 32) }
+fn encrypt(ctx: &Context, q: &mut Rows)
+    requires { Ready ctx.now }
     ensures { Encrypted (key_of ctx.now) q.old q.new }
 {
     let n = ctx[aes_keys::ROUNDS_AT] as usize;
-    aes_rows::add(q, &ctx[0..PLANES]);
-    let mut r = 1;
-    while r < n {
+    let (keys, _) = ctx.as_chunks::<PLANES>();
+    aes_rows::add(q, &keys[0]);
+    for r in 1..n {
         aes_rows::sub_rows(q);
-        let at = PLANES * r;
-        let end = at + PLANES;
-        aes_rows::mix(q, &ctx[at..end]);
-        r += 1;
+        aes_rows::mix(q, &keys[r]);
     }
     aes_rows::sub_rows(q);
-    let at = PLANES * n;
-    let end = at + PLANES;
-    aes_rows::last(q, &ctx[at..end]);
+    aes_rows::last(q, &keys[n]);
 }
 
 // Planes into bytes, row by row.
-fn transpose(q: &mut [u64])
-    requires { length q.old ≡ 32 }
+fn transpose(q: &mut Rows)
     ensures { Each Transposing 4 q.old q.new }
 {
-    let mut r = 0;
-    while r < 4 {
-        let p = bit_transpose::transpose(aes_rows::load_row(q, r));
-        aes_rows::store_row(q, r, p);
-        r += 1;
-    }
+    aes_rows::each_row(q, |_r: usize, a: Planes| bit_transpose::transpose(a));
 }
 
 // Rows of bytes into the words of blocks, two blocks at a time.
-fn gather(w: &mut [u64], q: &[u64])
-    requires { (length w.old ≡ 32) × (length q.now ≡ 32) }
+fn gather(w: &mut Rows, q: &Rows)
     ensures { Gathered 8 q.now w.new }
 {
-    let mut i = 0;
-    while i < 8 {
+    for i in 0..8 {
         let k = 4 * i;
         let f = bit_transpose::columns(q[i], q[8 + i], q[16 + i], q[24 + i]);
         w[k] = f.a;
         w[k + 1] = f.b;
         w[k + 2] = f.c;
         w[k + 3] = f.d;
-        i += 1;
     }
 }
 
 // Writes the words of a state as bytes.
-fn write(out: &mut [u8], q: &[u64])
-    requires { (length out.old ≡ 256) × (length q.now ≡ 32) }
+fn write(out: &mut [u8], q: &Rows)
+    requires { length out.old ≡ 256 }
     ensures { out.new ≡ word_bytes 32 q.now }
 {
-    let mut i = 0;
-    while i < PLANES {
+    for i in 0..PLANES {
         let at = 8 * i;
         octets::write_be64(&mut out[at..], q[i]);
-        i += 1;
     }
 }
 
 // The bytes of sixteen states.
-fn unslice(q: &mut [u64]) -> Batch
-    requires { length q.old ≡ 32 }
+fn unslice(q: &mut Rows) -> Batch
     ensures { Unsliced q.old result }
 {
     transpose(q);
@@ -162,6 +138,15 @@ fn unslice(q: &mut [u64]) -> Batch
     out
 }
 
+// The bytes of sixteen states, encrypted.
+fn encrypted(ctx: &Context, q: &mut Rows) -> Batch
+    requires { Ready ctx.now }
+    ensures { Enciphered (key_of ctx.now) q.old result }
+{
+    encrypt(ctx, q);
+    unslice(q)
+}
+
 // The encrypted counter blocks of a nonce, from a block count on.
 pub fn stream(ctx: &Context, nonce: &[u8], count: u32) -> Batch
     requires { (Ready ctx.now) × (length nonce.now ≡ 12) × (count % 16 ≡ 0) }
@@ -169,8 +154,7 @@ pub fn stream(ctx: &Context, nonce: &[u8], count: u32) -> Batch
 {
     let mut q = [0u64; PLANES];
     counters(&mut q, nonce, count);
-    encrypt(ctx, &mut q);
-    unslice(&mut q)
+    encrypted(ctx, &mut q)
 }
 
 // The same with the encrypted block of zeros in the place of the first.
@@ -181,6 +165,5 @@ pub fn front(ctx: &Context, nonce: &[u8], count: u32) -> Batch
     let mut q = [0u64; PLANES];
     counters(&mut q, nonce, count);
     clear_first(&mut q);
-    encrypt(ctx, &mut q);
-    unslice(&mut q)
+    encrypted(ctx, &mut q)
 }

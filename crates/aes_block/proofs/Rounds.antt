@@ -3,8 +3,8 @@
 -- Assumes nothing.
 use mathlib.Core.Path.{◌≡◌, ap, sym, ◌∙◌}
 use mathlib.Core.List.{List, [], ◌∷◌}
-use Prim.Native.Nat.{ℕ, ◌+◌, ◌*◌, ◌/◌, ◌%◌, ◌^◌, ◌<◌}
-use native.Mathlib.Nat.{add-zero}
+use Prim.Native.Nat.{ℕ, zero, suc, ◌+◌, ◌*◌, ◌/◌, ◌%◌, ◌^◌, ◌<◌}
+use native.Mathlib.Nat.{add-zero, div-one}
 use native.Mathlib.Omega.{arith}
 use lib.Bits.{bit_xor, xor_lt, xor_comm}
 use lib.ListN.{get_or}
@@ -14,7 +14,7 @@ use Rattle.aes_round_table.specs.Inner.RoundTable.{mixed_first, twice, RoundTabl
 use Rattle.aes.specs.Aes.{word, byte, sub_bytes, shift_rows, mix_column, mix_columns, add_round_key}
 use Rattle.aes.proofs.Words.{twice-lt, thrice-lt, s_box-lt, word_lt, byte-2, right-1, right-2, right-3, word-xor}
 use Rattle.aes.proofs.Columns.{mixed_column, mix-columns}
-use Rattle.aes_block.specs.Inner.Context.{share0, share1, share2, share3, Table}
+use Rattle.aes_block.specs.Inner.Context.{share0, share1, share2, share3, share_of, Table}
 
 -- ---- the table
 
@@ -66,21 +66,29 @@ module _ (s : ℕ) (h : s < 256) where
   unfolding mixed_first word
   share-lt = word_lt (mul 2 s) s s (mul 3 s) (twice-lt s h) h h (thrice-lt s h)
 
-  pub look-0 : twice (mixed_first s) % 2 ^ 32 ≡ share0 s
+  look-0 : twice (mixed_first s) % 2 ^ 32 ≡ share0 s
   unfolding mixed_first share0 word
   look-0 = low-0 (mixed_first s) share-lt
 
-  pub look-1 : twice (mixed_first s) / 0x100 % 2 ^ 32 ≡ share1 s
+  look-1 : twice (mixed_first s) / 0x100 % 2 ^ 32 ≡ share1 s
   unfolding mixed_first word share1
   look-1 = low-1 (mixed_first s) share-lt ∙ right-1 (mul 2 s) s s (mul 3 s) (twice-lt s h) h h (thrice-lt s h)
 
-  pub look-2 : twice (mixed_first s) / 0x10000 % 2 ^ 32 ≡ share2 s
+  look-2 : twice (mixed_first s) / 0x10000 % 2 ^ 32 ≡ share2 s
   unfolding mixed_first word share2
   look-2 = low-2 (mixed_first s) share-lt ∙ right-2 (mul 2 s) s s (mul 3 s) (twice-lt s h) h h (thrice-lt s h)
 
-  pub look-3 : twice (mixed_first s) / 0x1000000 % 2 ^ 32 ≡ share3 s
+  look-3 : twice (mixed_first s) / 0x1000000 % 2 ^ 32 ≡ share3 s
   unfolding mixed_first word share3
   look-3 = low-3 (mixed_first s) share-lt ∙ right-3 (mul 2 s) s s (mul 3 s) (twice-lt s h) h h (thrice-lt s h)
+
+  -- An entry turned to the place of byte i.
+  pub look : (i : ℕ) → i < 4 → twice (mixed_first s) / 2 ^ (8 * i) % 2 ^ 32 ≡ share_of i s
+  look zero l = rw div-one look-0
+  look (suc zero) l = look-1
+  look (suc (suc zero)) l = look-2
+  look (suc (suc (suc zero))) l = look-3
+  look (suc (suc (suc (suc i)))) l = absurd (omega arith)
 
   -- The second byte of an entry is the byte that it was made of.
   pub second-byte : twice (mixed_first s) / 256 % 256 ≡ s

@@ -14,14 +14,10 @@ ghost use Rattle.aes.specs.Aes.{KeySize, byte, block_size, add_round_key, mix_co
 ghost use Rattle.aes.specs.Inner.Schedule.{max_rounds};
 ghost use Rattle.aes_block.specs.Inner.Context.{table_at, entries, share0, share1, share2, share3, Table, Context, Ready, key_of, list_of};
 
+use aes::schedule::WORDS;
+
 mod schedule;
 mod table;
-
-// The rounds of the longest key.
-const MAX_ROUNDS: usize = 14;
-
-// The words of the longest key schedule.
-const WORDS: usize = 4 * (MAX_ROUNDS + 1);
 
 // Where the number of rounds stands in a context: behind the longest key schedule.
 const ROUNDS_AT: usize = WORDS;
@@ -60,12 +56,10 @@ pub fn expand(key: &[u8]) -> Context
     requires { KeySize (length key.now) }
     ensures { Context key.now result }
 {
-    let w = schedule::words(key);
+    let w = aes::schedule::words(&schedule::s_box(), key);
     let mut ctx = table::start();
-    let mut i = 0;
-    while i < WORDS {
+    for i in 0..WORDS {
         put_word(&mut ctx, i, w[i]);
-        i += 1;
     }
     ctx[ROUNDS_AT] = (key.len() / 4 + 6) as u64;
     ctx
@@ -115,15 +109,11 @@ fn share(ctx: &Context, t: State, a: u32) -> State
     requires { Table entries ctx.now }
     ensures { (result.c0 ≡ bit_xor t.c1 (share3 (s_box (byte 3 a)))) × (result.c1 ≡ bit_xor t.c2 (share2 (s_box (byte 2 a)))) × (result.c2 ≡ bit_xor t.c3 (share1 (s_box (byte 1 a)))) × (result.c3 ≡ bit_xor t.c0 (share0 (s_box (byte 0 a)))) }
 {
-    let s0 = table::share_0(ctx, a);
-    let s3 = table::share_3(ctx, a);
-    let s2 = table::share_2(ctx, a);
-    let s1 = table::share_1(ctx, a);
     State {
-        c0: t.c1 ^ s3,
-        c1: t.c2 ^ s2,
-        c2: t.c3 ^ s1,
-        c3: t.c0 ^ s0,
+        c0: t.c1 ^ table::share(ctx, 3, a),
+        c1: t.c2 ^ table::share(ctx, 2, a),
+        c2: t.c3 ^ table::share(ctx, 1, a),
+        c3: t.c0 ^ table::share(ctx, 0, a),
     }
 }
 
@@ -173,9 +163,7 @@ pub fn encrypt(ctx: &Context, s: State) -> State
 {
     let n = ctx[ROUNDS_AT] as usize;
     let mut t = add_round_key(ctx, s, 0);
-    let mut r = 0;
-    while r + 1 < n {
-        r += 1;
+    for r in 1..n {
         t = round(ctx, t, r);
     }
     add_round_key(ctx, shift(ctx, t), n)

@@ -1,10 +1,10 @@
 // SPDX-License-Identifier: MIT
 // The table by which a round works: for each byte, what SubBytes and MixColumns make of it.
-ghost use Rattle.std.specs.Prelude.{◌≡◌, ◌*◌, ◌%◌, ◌^◌, ◌≤◌};
+ghost use Rattle.std.specs.Prelude.{◌≡◌, ◌*◌, ◌%◌, ◌^◌, ◌≤◌, ◌<◌};
 ghost use Rattle.aes_tables.specs.Field.{s_box};
 ghost use Rattle.aes.specs.Aes.{byte};
 ghost use Rattle.aes_round_table.specs.Inner.RoundTable.{entry_of};
-ghost use Rattle.aes_block.specs.Inner.Context.{entries, Table, share0, share1, share2, share3};
+ghost use Rattle.aes_block.specs.Inner.Context.{entries, Table, share_of};
 
 use crate::{Context, State, TABLE_AT};
 
@@ -22,6 +22,14 @@ pub fn low(x: u64) -> u32
     (x % 0x1_0000_0000) as u32
 }
 
+// Byte i of a word.
+fn byte_of(i: u32, a: u32) -> u8
+    requires { i < 4 }
+    ensures { result ≡ byte i a }
+{
+    ((a >> (24 - 8 * i)) % 256) as u8
+}
+
 // The table's entry for x.
 fn entry(ctx: &Context, x: u8) -> u64
     requires { Table entries ctx.now }
@@ -30,33 +38,13 @@ fn entry(ctx: &Context, x: u8) -> u64
     ctx[TABLE_AT + x as usize]
 }
 
-// The share of each byte of a column in a column of the next state: an entry turned to the byte's place.
-pub fn share_0(ctx: &Context, a: u32) -> u32
-    requires { Table entries ctx.now }
-    ensures { result ≡ share0 (s_box (byte 0 a)) }
+// The share of byte i of a column in a column of the next state: an entry turned to the byte's place.
+pub fn share(ctx: &Context, i: u32, a: u32) -> u32
+    requires table { Table entries ctx.now }
+    requires i_lt_4 { i < 4 }
+    ensures { result ≡ share_of i (s_box (byte i a)) }
 {
-    low(entry(ctx, (a / 0x100_0000 % 256) as u8))
-}
-
-pub fn share_1(ctx: &Context, a: u32) -> u32
-    requires { Table entries ctx.now }
-    ensures { result ≡ share1 (s_box (byte 1 a)) }
-{
-    low(entry(ctx, (a / 0x1_0000 % 256) as u8) / 0x100)
-}
-
-pub fn share_2(ctx: &Context, a: u32) -> u32
-    requires { Table entries ctx.now }
-    ensures { result ≡ share2 (s_box (byte 2 a)) }
-{
-    low(entry(ctx, (a / 0x100 % 256) as u8) / 0x1_0000)
-}
-
-pub fn share_3(ctx: &Context, a: u32) -> u32
-    requires { Table entries ctx.now }
-    ensures { result ≡ share3 (s_box (byte 3 a)) }
-{
-    low(entry(ctx, (a % 256) as u8) / 0x100_0000)
+    low(entry(ctx, byte_of(i, a)) >> (8 * i))
 }
 
 // The S-box's entry for x, the second byte of the table's.
@@ -73,10 +61,10 @@ pub fn substituted(ctx: &Context, a: u32) -> State
     ensures c0_value { (result.c0 ≡ s_box (byte 0 a) * 0x1000000) × (result.c1 ≡ s_box (byte 1 a) * 0x10000) × (result.c2 ≡ s_box (byte 2 a) * 0x100) × (result.c3 ≡ s_box (byte 3 a)) }
     ensures c0_bound { (result.c0 ≤ 0xff000000) × (result.c1 ≤ 0xff0000) × (result.c2 ≤ 0xff00) × (result.c3 ≤ 0xff) }
 {
-    let p = sub(ctx, (a / 0x100_0000 % 256) as u8);
-    let q = sub(ctx, (a / 0x1_0000 % 256) as u8);
-    let r = sub(ctx, (a / 0x100 % 256) as u8);
-    let s = sub(ctx, (a % 256) as u8);
+    let p = sub(ctx, byte_of(0, a));
+    let q = sub(ctx, byte_of(1, a));
+    let r = sub(ctx, byte_of(2, a));
+    let s = sub(ctx, byte_of(3, a));
     State {
         c0: p as u32 * 0x100_0000,
         c1: q as u32 * 0x1_0000,

@@ -1,16 +1,15 @@
 -- SPDX-License-Identifier: MIT
 -- Laws of SubWord by the circuit, and of words in planes.
 -- Assumes nothing.
-use mathlib.Core.Path.{◌≡◌, refl, sym, ◌∙◌, ap}
+use mathlib.Core.Path.{◌≡◌, sym, ◌∙◌, ap}
 use mathlib.Core.List.{List, [], ◌∷◌}
-use Prim.Native.Nat.{ℕ, zero, suc, ◌+◌, ◌*◌, ◌/◌, ◌%◌, ◌^◌, ◌-◌, ◌≤◌, ◌<◌}
+use Prim.Native.Nat.{ℕ, zero, suc, ◌+◌, ◌*◌, ◌/◌, ◌%◌, ◌^◌, ◌-◌, ◌<◌}
 use native.Mathlib.Nat.{div-one, mod-lt, div-add-mod'}
 use native.Mathlib.Omega.{arith}
 use lib.Bits.{bit_and}
-use lib.ListN.{length, get_or}
+use lib.ListN.{get_or}
 use lib.Pow.{shr-shr}
-use Rattle.aes_tables.specs.Field.{s_box}
-use Rattle.aes.specs.Aes.{word, byte, sub_word}
+use Rattle.aes.specs.Aes.{word, sub_word}
 use Rattle.aes.proofs.Words.{word_bytes}
 use Rattle.bitslice.specs.declared.Planes.{Planes}
 use Rattle.bitslice.specs.Lanes.{lane, byte_of, lane_byte, Substituted, Spread}

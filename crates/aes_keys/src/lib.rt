@@ -8,6 +8,7 @@ ghost use Rattle.aes.specs.Aes.{KeySize};
 ghost use Rattle.aes_keys.specs.Inner.Keys.{size, packed, Filled, Context};
 
 use aes_rows::PLANES;
+use bitslice::Planes;
 
 mod schedule;
 
@@ -47,12 +48,9 @@ pub fn fill(q: &mut [u64], w0: u32, w1: u32, w2: u32, w3: u32)
     requires { length q.old ≡ 32 }
     ensures { Filled w0 w1 w2 w3 q.new }
 {
-    let mut r = 0;
-    while r < 4 {
-        let p = bitslice::spread(pack(w0, w1, w2, w3, (24 - 8 * r) as u32));
-        aes_rows::store_row(q, r, p);
-        r += 1;
-    }
+    aes_rows::each_row(q, |r: usize, _a: Planes| {
+        bitslice::spread(pack(w0, w1, w2, w3, (24 - 8 * r) as u32))
+    });
 }
 
 // Fills ctx with the context of a key.
@@ -60,10 +58,9 @@ pub fn expand(ctx: &mut [u64], key: &[u8])
     requires { (length ctx.old ≡ size) × KeySize (length key.now) }
     ensures { Context key.now ctx.new }
 {
-    let w = schedule::words(key);
+    let w = aes::schedule::words(&schedule::Circuit, key);
     let n = key.len() / 4 + 6;
-    let mut r = 0;
-    while r <= n {
+    for r in 0..n + 1 {
         let at = PLANES * r;
         let end = at + PLANES;
         fill(
@@ -73,7 +70,6 @@ pub fn expand(ctx: &mut [u64], key: &[u8])
             w[4 * r + 2],
             w[4 * r + 3],
         );
-        r += 1;
     }
     ctx[ROUNDS_AT] = n as u64;
 }

@@ -86,3 +86,7 @@ module _ (R : ℕ → Planes → Planes → Type 0) where
             (rw (c.same, ← a.left n h (omega arith)) b);
         left = λ s k m. c.others s k (omega arith) ∙ a.left s k (omega arith);
       }
+
+-- What is so of each row changed under one relation is so under every one that follows from it.
+pub each_as : (R S : ℕ → Planes → Planes → Type 0) (n : ℕ) (q t : List ℕ) → ((s : ℕ) (a b : Planes) → s < n → R s a b → S s a b) → Each R n q t → Each S n q t
+each_as R S n q t f e = record { sized = e.sized; done = λ s h. f s _ _ h (e.done s h); left = e.left }

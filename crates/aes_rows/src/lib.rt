@@ -5,8 +5,8 @@
 // each column, the last column in the lowest lanes. Round keys have the same form.
 #![tactic(auto)]
 
-ghost use Rattle.std.specs.Prelude.{◌≡◌, ◌+◌, ◌*◌, ◌<◌, ◌≤◌, length};
-ghost use Rattle.bitslice.specs.Lanes.{Sum, Mixed};
+ghost use Rattle.std.specs.Prelude.{◌≡◌, ℕ, ◌+◌, ◌*◌, ◌<◌, ◌≤◌, length};
+ghost use Rattle.bitslice.specs.Lanes.{Sum, Mixed, Substituted};
 ghost use Rattle.aes_rows.specs.Rows.{row_at, RowSet, Each, Substituting, Adding};
 ghost use Rattle.aes_rows.specs.Rounds.{Shifted, RowMixed, RowAdded, AllMixed, AllShifted};
 
@@ -15,7 +15,11 @@ use bitslice::Planes;
 // The words of a state, and of a round key.
 pub const PLANES: usize = 32;
 
-// Row r.
+// A state, or a round key.
+pub type Rows = [u64; PLANES];
+
+// Row r. This and the next two take a slice, since the round keys that `aes_keys` writes are parts of a context: a part that
+// is lent as an array has no plain proof of what the context then holds.
 pub fn load_row(q: &[u64], r: usize) -> Planes
     requires { (length q.now ≡ 32) × (r < 4) }
     ensures { result ≡ row_at q.now r }
@@ -49,19 +53,32 @@ pub fn store_row(q: &mut [u64], r: usize, p: Planes)
     q[k + 7] = p.p7;
 }
 
+// Changes each row by f, which takes its number too.
+pub fn each_row<F: Fn(usize, Planes) -> Planes>(q: &mut [u64], f: F)
+    requires sized { length q.old ≡ 32 }
+    requires callable { (r : ℕ) (a : Planes) → r < 4 → F.pre f r a }
+    ensures { Each (λ r a b. F.post f r a b) 4 q.old q.new }
+{
+    for r in 0..4 {
+        let p = f(r, load_row(q, r));
+        store_row(q, r, p);
+    }
+}
+
+// The S-box of every byte of a row.
+fn substituted(a: Planes) -> Planes
+    ensures { Substituted a result }
+{
+    let y = bitslice::top(a);
+    let t = bitslice::inverse(bitslice::products(y));
+    bitslice::bottom(bitslice::scaled(t, y))
+}
+
 // SubBytes.
-pub fn sub_rows(q: &mut [u64])
-    requires { length q.old ≡ 32 }
+pub fn sub_rows(q: &mut Rows)
     ensures { Each Substituting 4 q.old q.new }
 {
-    let mut r = 0;
-    while r < 4 {
-        let y = bitslice::top(load_row(q, r));
-        let t = bitslice::inverse(bitslice::products(y));
-        let p = bitslice::bottom(bitslice::scaled(t, y));
-        store_row(q, r, p);
-        r += 1;
-    }
+    each_row(q, |_r: usize, a: Planes| substituted(a));
 }
 
 // The four rows.
@@ -74,8 +91,7 @@ pub struct State {
 }
 
 // ShiftRows.
-fn shifted(q: &[u64]) -> State
-    requires { length q.now ≡ 32 }
+fn shifted(q: &Rows) -> State
     ensures { Shifted q.now result }
 {
     let a = load_row(q, 0);
@@ -91,8 +107,8 @@ fn shifted(q: &[u64]) -> State
 }
 
 // Row r of MixColumns and AddRoundKey: s times x, b, t and the key.
-fn mix_into(q: &mut [u64], k: &[u64], r: usize, s: Planes, b: Planes, t: Planes)
-    requires { (length q.old ≡ 32) × (length k.now ≡ 32) × (r < 4) }
+fn mix_into(q: &mut Rows, k: &Rows, r: usize, s: Planes, b: Planes, t: Planes)
+    requires { r < 4 }
     ensures { RowMixed q.old k.now r s b t q.new }
 {
     let p = bitslice::mix(s, b, t, load_row(k, r));
@@ -100,8 +116,7 @@ fn mix_into(q: &mut [u64], k: &[u64], r: usize, s: Planes, b: Planes, t: Planes)
 }
 
 // ShiftRows, MixColumns and AddRoundKey. Each sum of two rows is made once and used in two.
-pub fn mix(q: &mut [u64], k: &[u64])
-    requires { (length q.old ≡ 32) × (length k.now ≡ 32) }
+pub fn mix(q: &mut Rows, k: &Rows)
     ensures { AllMixed q.old k.now q.new }
 {
     let s = shifted(q);
@@ -116,8 +131,8 @@ pub fn mix(q: &mut [u64], k: &[u64])
 }
 
 // Row r of AddRoundKey, of the row a.
-fn add_into(q: &mut [u64], k: &[u64], r: usize, a: Planes)
-    requires { (length q.old ≡ 32) × (length k.now ≡ 32) × (r < 4) }
+fn add_into(q: &mut Rows, k: &Rows, r: usize, a: Planes)
+    requires { r < 4 }
     ensures { RowAdded q.old k.now r a q.new }
 {
     let p = bitslice::plus(a, load_row(k, r));
@@ -125,8 +140,7 @@ fn add_into(q: &mut [u64], k: &[u64], r: usize, a: Planes)
 }
 
 // ShiftRows and AddRoundKey, as in the last round.
-pub fn last(q: &mut [u64], k: &[u64])
-    requires { (length q.old ≡ 32) × (length k.now ≡ 32) }
+pub fn last(q: &mut Rows, k: &Rows)
     ensures { AllShifted q.old k.now q.new }
 {
     let s = shifted(q);
@@ -137,14 +151,8 @@ pub fn last(q: &mut [u64], k: &[u64])
 }
 
 // AddRoundKey.
-pub fn add(q: &mut [u64], k: &[u64])
-    requires { (length q.old ≡ 32) × (length k.now ≡ 32) }
+pub fn add(q: &mut Rows, k: &Rows)
     ensures { Each (Adding k.now) 4 q.old q.new }
 {
-    let mut r = 0;
-    while r < 4 {
-        let a = load_row(q, r);
-        add_into(q, k, r, a);
-        r += 1;
-    }
+    each_row(q, |r: usize, a: Planes| bitslice::plus(a, load_row(k, r)));
 }

@@ -6,10 +6,11 @@ mod run;
 mod vectors;
 
 use std::io;
+use vector_text::Tally;
 
 // Prints a name and a tally as one line.
-fn report(rt: &impl Print, name: &str, t: run::Tally) -> io::Result<()> {
-    println!(rt; "{name}: {} match, {} differ", t.matched, t.differed)
+fn report(rt: &impl Print, name: &str, t: Tally) -> io::Result<()> {
+    println!(rt; "{name}: {} match, {} differ", t.right, t.wrong)
 }
 
 fn main(rt: HostRuntime) -> io::Result<()> {

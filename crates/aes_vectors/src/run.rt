@@ -1,36 +1,12 @@
 // SPDX-License-Identifier: MIT
 // Runs one vector and compares the answer with the one expected.
 
-// How many vectors matched, and how many did not.
-#[derive(Clone, Copy)]
-pub struct Tally {
-    pub matched: u32,
-    pub differed: u32,
-}
+use sframe_test::Refused;
+use vector_text::Tally;
 
-// Whether out begins with the bytes expected.
-fn begins(out: &[u8], expected: &[u8]) -> bool {
-    let n = expected.len();
-    if out.len() < n {
-        return false;
-    }
-    octets::equal(&out[..n], expected)
-}
-
-// One more vector: it matches where the function answered 0, and wrote what was expected.
-fn counted(t: Tally, answer: u32, out: &[u8], expected: &[u8]) -> Tally {
-    if answer == 0 {
-        if begins(out, expected) {
-            return Tally {
-                matched: std::num::wrapping_add_u32(t.matched, 1),
-                differed: t.differed,
-            };
-        }
-    }
-    Tally {
-        matched: t.matched,
-        differed: std::num::wrapping_add_u32(t.differed, 1),
-    }
+// One more vector: it matches where the function took it, and wrote what was expected.
+fn counted(t: Tally, answer: Result<(), Refused>, out: &[u8], expected: &[u8]) -> Tally {
+    t.plus(answer.is_ok() && out.starts_with(expected))
 }
 
 // AES of a block.

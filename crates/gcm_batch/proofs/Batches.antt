@@ -3,7 +3,7 @@
 -- Assumes nothing.
 use mathlib.Core.Path.{◌≡◌, refl, ap, ap₂, sym, ◌∙◌}
 use mathlib.Core.List.{List, [], ◌++◌, append-nil, append_assoc}
-use Prim.Native.Nat.{ℕ, zero, suc, ◌+◌, ◌*◌, ◌-◌, ◌%◌, ◌^◌, ◌≤◌, ◌<◌, min}
+use Prim.Native.Nat.{ℕ, zero, suc, ◌+◌, ◌*◌, ◌-◌, ◌/◌, ◌%◌, ◌^◌, ◌≤◌, ◌<◌, min}
 use mathlib.Core.Logic.{◌⊎◌, inl, inr}
 use native.Mathlib.Nat.{zero-add}
 use native.Mathlib.Omega.{arith}
@@ -15,9 +15,9 @@ use Rattle.octets.proofs.Laws.{xors-length, part-rest}
 use Rattle.aes.specs.Aes.{encrypt, blocks}
 use Rattle.bitslice.proofs.Turns.{le-or-lt}
 use Rattle.aes_batch.specs.Inner.Batch.{Blocks, counters_of, front_of}
-use Rattle.gcm.specs.Counter.{counter_block, key_stream, ctr}
+use Rattle.gcm.specs.Counter.{counter_block, key_stream, ctr, ctr_from}
 use Rattle.gcm.specs.Inner.Limits.{max_bytes}
-use Rattle.gcm.proofs.Streams.{xors-append, stream-length, stream-add, ctr-stream, ctr-nil, ctr-enough}
+use Rattle.gcm.proofs.Streams.{xors-append, stream-length, stream-add, ctr-stream, ctr-nil, ctr-enough, stream-behind, enough-zero, cut, from-length}
 
 pub part_length : (l : List ℕ) (i e : ℕ) → i ≤ e → e ≤ length l → length (take (e - i) (drop i l)) ≡ e - i
 part_length l i e h k = length-take-le (e - i) (drop i l) (simp length-drop (omega arith))
@@ -32,15 +32,6 @@ stream-part key nonce f s count k b (suc n) h g =
     let d : 16 * k + 16 * n ≡ 16 * (k + n) = omega arith in
     rw (e, take-add (16 * n) 16 (drop (16 * k) s), drop-drop (16 * n) (16 * k) s, d, b.each (k + n) (omega arith), g n (omega arith))
     (ap (λ (x : List ℕ). x ++ encrypt key (counter_block nonce (count + n))) (stream-part key nonce f s count k b n (omega arith) (λ m l. g m (omega arith))))
-
--- The rest of a batch, from the block of a count on.
-pub batch-rest : (key nonce s : List ℕ) (c k : ℕ) → k ≡ c % 16 → Blocks key (counters_of nonce (c - c % 16)) s
-    → take (256 - 16 * k) (drop (16 * k) s) ≡ key_stream key nonce c (16 - k)
-unfolding counter_block
-batch-rest key nonce s c k e b =
-    let f : 256 - 16 * k ≡ 16 * (16 - k) = omega arith in
-    rw f (stream-part key nonce (counters_of nonce (c - c % 16)) s c k b (16 - k) (omega arith)
-    (λ m h. let g : c - c % 16 + (k + m) ≡ c + m = omega arith in rw g))
 
 -- The data of a front.
 pub front_rest : (key nonce s : List ℕ) → Blocks key (front_of nonce 0) s → drop 32 s ≡ key_stream key nonce 2 14
@@ -58,29 +49,74 @@ xored l o p q s e f g =
     let z : drop (length l) o ≡ [] = drop_of_length-le o {i = length l} (omega arith) in
     g ∙ rw (f, z, append-nil l)
 
--- n blocks more.
-pub apply-step : (key nonce l z o p : List ℕ) (count j n at e : ℕ) → at ≡ 16 * j → at ≤ e → e ≤ length l → length z ≡ length l
-    → o ≡ xors (take at l) (key_stream key nonce count j) ++ drop at z
-    → p ≡ xors (take (e - at) (drop at l)) (key_stream key nonce (count + j) n)
-    → put_mid at (e - at) o p ≡ xors (take e l) (key_stream key nonce count (j + n)) ++ drop e z
-apply-step key nonce l z o p count j n at e a b c d f g =
-    let k = key_stream key nonce count j in
-    let x = xors (take at l) k in
-    let w : length x ≡ at = xors-length (take at l) k ∙ length-take-le at l (omega arith) in
-    let u : take at o ≡ x = ap (take at) f ∙ take_at x (drop at z) at w in
-    let v : drop at o ≡ drop at z = ap (drop at) f ∙ drop_at x (drop at z) at w in
-    let s : at + (e - at) ≡ e = omega arith in
-    let y : drop (e - at) (drop at z) ≡ drop e z = drop-drop (e - at) at z ∙ rw s in
-    let t : take e l ≡ take at l ++ take (e - at) (drop at l) = ap (λ (i : ℕ). take i l) (sym s) ∙ take-add at (e - at) l in
-    let m : length (take at l) ≡ length k = length-take-le at l (omega arith) ∙ a ∙ sym (stream-length key nonce count j) in
-    rw (u, v, y, g, stream-add key nonce count j n, t, xors-append (take at l) (take (e - at) (drop at l)) k (key_stream key nonce (count + j) n) m)
-    (sym (append_assoc x (xors (take (e - at) (drop at l)) (key_stream key nonce (count + j) n)) (drop e z)))
+module _ (key nonce : List ℕ) where
+  -- The batch of sixteen blocks that byte p of the key stream lies in, where its blocks from k on are those of the stream.
+  pub batch-part : (f : ℕ → List ℕ) (s l : List ℕ) (k count at p : ℕ) → Blocks key f s
+      → ((m : ℕ) → m < 16 - k → f (k + m) ≡ counter_block nonce (p / 256 * 16 + k + m)) → p ≡ 16 * count + at → 16 * k ≤ p % 256
+      → length l ≤ 256 - p % 256 → xors l (take (256 - p % 256) (drop (p % 256) s)) ≡ ctr_from key nonce count at l
+  batch-part f s l k count at p b g e d h =
+      let c : ℕ = p / 256 * 16 + k in
+      let i : ℕ = p % 256 - 16 * k in
+      let n : ℕ = 16 - k in
+      let w : 16 * k + i ≡ p % 256 = omega arith in
+      let q : 16 * c + i ≡ 16 * count + at = omega arith in
+      let r : drop (16 * k) s ≡ key_stream key nonce c n =
+      sym (take_all (16 * n) (drop (16 * k) s) (rw (length-drop (16 * k) s) (omega (arith, b.sized))))
+      ∙ stream-part key nonce f s c k b n (omega arith) g in
+      ap (xors l) (take_all (256 - p % 256) (drop (p % 256) s) (rw (length-drop (p % 256) s) (omega (arith, b.sized))))
+      ∙ ap (λ (j : ℕ). xors l (drop j s)) (sym w)
+      ∙ ap (xors l) (sym (drop-drop i (16 * k) s))
+      ∙ ap (λ (t : List ℕ). xors l (drop i t)) r
+      ∙ ap (λ (j : ℕ). xors l (drop i (key_stream key nonce j n))) (sym (zero-add c))
+      ∙ ap (xors l) (sym (stream-behind key nonce 0 c n i))
+      ∙ ap (λ (j : ℕ). xors l (drop j (key_stream key nonce 0 (c + n)))) q
+      ∙ enough-zero key nonce count at (c + n) l (omega arith)
 
--- The end of the loop.
-pub apply-done : (key nonce l z o : List ℕ) (count j at : ℕ) → at ≡ min (16 * j) (length l) → length l ≤ at
-    → length z ≡ length l → o ≡ xors (take at l) (key_stream key nonce count j) ++ drop at z → o ≡ ctr key nonce count l
-apply-done key nonce l z o count j at a b d f =
-    f ∙ rw (take_all at l b, drop_of_length-le z {i = at} (omega arith)) (append-nil _ ∙ ctr-enough key nonce l count j (omega arith))
+  -- That of the stream, and that with the block of zeros in front.
+  pub counters-part : (s l : List ℕ) (count at p : ℕ) → p ≡ 16 * count + at → Blocks key (counters_of nonce (p / 256 * 16)) s
+      → length l ≤ 256 - p % 256 → xors l (take (256 - p % 256) (drop (p % 256) s)) ≡ ctr_from key nonce count at l
+  unfolding counter_block
+  counters-part s l count at p e b h =
+      batch-part (counters_of nonce (p / 256 * 16)) s l 0 count at p b numbered e (omega arith) h
+    where
+      numbered : (m : ℕ) → m < 16 → counters_of nonce (p / 256 * 16) (0 + m) ≡ nonce ++ bytes 4 (p / 256 * 16 + 0 + m)
+      numbered m k = let x : p / 256 * 16 + (0 + m) ≡ p / 256 * 16 + 0 + m = omega arith in ap (λ (i : ℕ). nonce ++ bytes 4 i) x
+
+  pub front-part : (s l : List ℕ) (count at p : ℕ) → p ≡ 16 * count + at → Blocks key (front_of nonce (p / 256 * 16)) s → 16 ≤ p % 256
+      → length l ≤ 256 - p % 256 → xors l (take (256 - p % 256) (drop (p % 256) s)) ≡ ctr_from key nonce count at l
+  unfolding counter_block
+  front-part s l count at p e b d h =
+      batch-part (front_of nonce (p / 256 * 16)) s l 1 count at p b numbered e (omega arith) h
+    where
+      numbered : (m : ℕ) → m < 15 → front_of nonce (p / 256 * 16) (1 + m) ≡ nonce ++ bytes 4 (p / 256 * 16 + 1 + m)
+      numbered m k =
+          let x : 1 + m ≡ suc m = omega arith in
+          let y : p / 256 * 16 + suc m ≡ p / 256 * 16 + 1 + m = omega arith in
+          ap (front_of nonce (p / 256 * 16)) x ∙ ap (λ (i : ℕ). nonce ++ bytes 4 i) y
+
+  -- The bytes from i to e more.
+  pub step : (l z o r : List ℕ) (count at i e : ℕ) → i ≤ e → e ≤ length l
+      → o ≡ ctr_from key nonce count at (take i l) ++ drop i z → r ≡ ctr_from key nonce count (at + i) (take (e - i) (drop i l))
+      → put_mid i (e - i) o r ≡ ctr_from key nonce count at (take e l) ++ drop e z
+  step l z o r count at i e h k f g =
+      let x = ctr_from key nonce count at (take i l) in
+      let n : length (take i l) ≡ i = length-take-le i l (omega arith) in
+      let w : length x ≡ i = from-length key nonce count at (take i l) ∙ n in
+      let u : take i o ≡ x = ap (take i) f ∙ take_at x (drop i z) i w in
+      let v : drop i o ≡ drop i z = ap (drop i) f ∙ drop_at x (drop i z) i w in
+      let s : i + (e - i) ≡ e = omega arith in
+      let y : drop (e - i) (drop i z) ≡ drop e z = drop-drop (e - i) i z ∙ rw s in
+      let t : ctr_from key nonce count at (take e l) ≡ x ++ r =
+      ap (λ (j : ℕ). ctr_from key nonce count at (take j l)) (sym s)
+      ∙ ap (ctr_from key nonce count at) (take-add i (e - i) l)
+      ∙ cut key nonce count at (take i l) (take (e - i) (drop i l))
+      ∙ ap (λ (j : ℕ). x ++ ctr_from key nonce count (at + j) (take (e - i) (drop i l))) n
+      ∙ ap (λ (b : List ℕ). x ++ b) (sym g) in
+      rw (u, v, y, t) (sym (append_assoc x r (drop e z)))
+
+  pub done : (l z o : List ℕ) (count at i : ℕ) → length l ≤ i → length z ≡ length l
+      → o ≡ ctr_from key nonce count at (take i l) ++ drop i z → o ≡ ctr_from key nonce count at l
+  done l z o count at i h e f = f ∙ rw (take_all i l h, drop_of_length-le z {i = i} (omega arith)) (append-nil _)
 
 -- The first bytes by a front, and the others behind it.
 pub apply-front : (key nonce l f : List ℕ) (n : ℕ) → Blocks key (front_of nonce 0) f → n ≡ min (0 + 224) (length l)

@@ -1,12 +1,13 @@
 // SPDX-License-Identifier: MIT
 // Counter mode over AES: a key stream of encrypted counter blocks, sixteen at a time, XORed with the data.
-ghost use Rattle.std.specs.Prelude.{◌≡◌, ◌+◌, ◌≤◌, ◌<◌, min, length};
+ghost use Rattle.std.specs.Prelude.{◌≡◌, ◌+◌, ◌*◌, ◌≤◌, ◌<◌, min, length};
 ghost use Rattle.octets.specs.Octets.{xors};
-ghost use Rattle.aes.specs.Aes.{blocks};
+ghost use Rattle.aes.specs.Aes.{block_size, blocks};
 ghost use Rattle.aes_keys.specs.Inner.Keys.{Ready, key_of};
-ghost use Rattle.gcm.specs.Counter.{nonce_size, ctr};
+ghost use Rattle.gcm.specs.Counter.{nonce_size, ctr, ctr_from};
 ghost use Rattle.gcm.specs.Inner.Limits.{counts};
 
+use aes::BLOCK;
 use aes_batch::{BLOCKS, BYTES};
 use aes_keys::Context;
 
@@ -30,8 +31,28 @@ pub fn next(i: usize, m: usize, n: usize) -> usize
     i + m
 }
 
-// Writes input XOR the key stream that starts at the block count. A batch starts at a multiple of sixteen; of the first one
-// the blocks before the count are left out.
+// Writes input XOR the key stream that is counted from block count 0, from its byte number start on. A batch starts at a
+// multiple of sixteen blocks; of the first one the bytes before the input's are left out, of the last one those behind: so the
+// steps differ, and the loop is no walk over parts of one length.
+pub fn apply_from(ctx: &Context, nonce: &[u8], start: usize, input: &[u8], out: &mut [u8])
+    requires ready { Ready ctx.now }
+    requires nonce_len { length nonce.now ≡ nonce_size }
+    requires out_len { length out.old ≡ length input.now }
+    requires input_bound { start + length input.now < block_size * counts }
+    ensures { out.new ≡ ctr_from (key_of ctx.now) nonce.now 0 start input.now }
+{
+    let mut i = 0;
+    while i < input.len() {
+        let p = start + i;
+        let s = aes_batch::stream(ctx, nonce, (p / BYTES * BLOCKS) as u32);
+        let from = p % BYTES;
+        let end = next(i, BYTES - from, input.len());
+        xor_part(&s[from..BYTES], &input[i..end], &mut out[i..end]);
+        i = end;
+    }
+}
+
+// Writes input XOR the key stream that starts at the block count.
 pub fn apply(ctx: &Context, nonce: &[u8], count: u32, input: &[u8], out: &mut [u8])
     requires ready { Ready ctx.now }
     requires nonce_len { length nonce.now ≡ nonce_size }
@@ -39,16 +60,5 @@ pub fn apply(ctx: &Context, nonce: &[u8], count: u32, input: &[u8], out: &mut [u
     requires input_bound { count + blocks (length input.now) < counts }
     ensures { out.new ≡ ctr (key_of ctx.now) nonce.now count input.now }
 {
-    let mut j: usize = 0;
-    let mut at = 0;
-    while at < input.len() {
-        let c = count + j as u32;
-        let k = (c % 16) as usize;
-        let s = aes_batch::stream(ctx, nonce, c - c % 16);
-        let from = 16 * k;
-        let end = next(at, BYTES - from, input.len());
-        xor_part(&s[from..BYTES], &input[at..end], &mut out[at..end]);
-        j += BLOCKS - k;
-        at = end;
-    }
+    apply_from(ctx, nonce, BLOCK * count as usize, input, out);
 }

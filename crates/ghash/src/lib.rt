@@ -72,15 +72,12 @@ pub fn expand(h: Block) -> HashKey
 
 // The products of the factors of x and those of the context.
 fn products(t: &HashKey, x: Block) -> [u64; FACTORS]
-    requires { length t.now ≡ factors }
     ensures { Products (factors_of x.hi x.lo) t.now factors result }
 {
     let f = factors(x);
     let mut p = [0u64; FACTORS];
-    let mut i = 0;
-    while i < LAST {
+    for i in 0..LAST {
         p[i] = clmul::multiply(f[i], t[i]);
-        i += 1;
     }
     p[LAST] = clmul::multiply(f[LAST], t[LAST]);
     p
@@ -146,10 +143,8 @@ fn gather(a: &[u8], b: &[u8], i: usize) -> [u8; BLOCK]
     ensures { number block_size result ≡ number block_size (drop i (a.now ++ b.now)) }
 {
     let mut out = [0u8; BLOCK];
-    let mut k = 0;
-    while k < BLOCK {
+    for k in 0..BLOCK {
         out[k] = at(a, b, i + k);
-        k += 1;
     }
     out
 }
@@ -210,10 +205,8 @@ pub fn absorb(t: &HashKey, y: Block, a: &[u8], b: &[u8]) -> Block
 {
     let n = (a.len() + b.len() + (BLOCK - 1)) / BLOCK;
     let mut z = y;
-    let mut i = 0;
-    while i < n {
+    for i in 0..n {
         z = times(t, plus(z, padded(a, b, BLOCK * i)));
-        i += 1;
     }
     z
 }

@@ -2,155 +2,89 @@
 // Runs one case, and counts whether it gave what is expected.
 ghost use Rattle.std.specs.Prelude.{◌≡◌, ◌+◌, ◌*◌, ◌≤◌, length};
 ghost use Rattle.hmac.specs.Limits.{largest};
-ghost use Rattle.sha2_common.specs.Limits.{maximum};
 
-use hmac::{LARGEST, hkdf_expand_sha256, hkdf_extract_sha256, hmac_sha256, hmac_sha512};
-use running_hash::{sha256_of, sha512_of};
-use sha2_common::MAXIMUM;
+use hmac::{LARGEST, hkdf_expand, hkdf_extract, hmac_of};
+use running_hash::digest;
+use sha2_common::{Hash, MAXIMUM};
 use sha256::Sha256;
 use sha512::Sha512;
-use std::num::{wrapping_add_u8, wrapping_add_u64};
-
-#[derive(Clone, Copy)]
-pub struct Tally {
-    pub matches: u64,
-    pub mismatches: u64,
-}
-
-impl Tally {
-    pub fn new() -> Tally {
-        Tally {
-            matches: 0,
-            mismatches: 0,
-        }
-    }
-
-    // One case more.
-    pub fn plus(self, ok: bool) -> Tally {
-        if ok {
-            Tally {
-                matches: wrapping_add_u64(self.matches, 1),
-                mismatches: self.mismatches,
-            }
-        } else {
-            Tally {
-                matches: self.matches,
-                mismatches: wrapping_add_u64(self.mismatches, 1),
-            }
-        }
-    }
-}
-
-// The hexadecimal digit of a number below 16.
-fn digit(n: u8) -> u8
-    requires { n ≤ 15 }
-{
-    if n < 10 { b'0' + n } else { b'a' + (n - 10) }
-}
-
-// Whether text is the two digits of b at index 2 * i.
-fn digits_at(text: &[u8], i: usize, b: u8) -> bool
-    requires { 2 * i + 2 ≤ length text.now }
-{
-    let high = digit(b / 16);
-    let low = digit(b % 16);
-    let at = 2 * i;
-    text[at] == high && text[at + 1] == low
-}
+use std::num::wrapping_add_u8;
+use vector_text::{Tally, digit};
 
 // Whether text is bytes in hexadecimal.
 fn is_hex(bytes: &[u8], text: &[u8]) -> bool {
-    if bytes.len() != text.len() / 2 {
-        return false;
+    bytes.len() == text.len() / 2
+        && bytes
+            .iter()
+            .zip(text.chunks_exact(2))
+            .all(|(b, pair)| is_byte(*b, pair))
+}
+
+// Whether text is the two digits of b.
+fn is_byte(b: u8, text: &[u8]) -> bool {
+    match text {
+        [high, low] => digit(*high) == Some(b / 16) && digit(*low) == Some(b % 16),
+        _ => false,
     }
-    let mut i = 0;
-    while i < bytes.len() {
-        if !digits_at(text, i, bytes[i]) {
-            return false;
-        }
-        i += 1;
-    }
-    true
 }
 
 // Fills out with first, first + 1 and so on.
 pub fn count(out: &mut [u8], first: u8) {
     let mut next = first;
-    let mut i = 0;
-    while i < out.len() {
-        out[i] = next;
+    for b in out {
+        *b = next;
         next = wrapping_add_u8(next, 1);
-        i += 1;
     }
 }
 
-// Both digests of a message in two pieces, which are fed to lent states.
-fn pieces(t: Tally, first: &[u8], second: &[u8], sha256: &[u8], sha512: &[u8]) -> Tally
-    requires { length first.now + length second.now ≤ maximum }
-{
-    let short = sha256_of(first, second);
-    let long = sha512_of(first, second);
-    t.plus(is_hex(&short, sha256)).plus(is_hex(&long, sha512))
+// A message, and its digests in hexadecimal.
+pub struct Message<'a> {
+    pub text: &'a [u8],
+    pub sha256: &'a [u8],
+    pub sha512: &'a [u8],
 }
 
-// The same with the message cut at every place.
-fn cuts(t: Tally, message: &[u8], sha256: &[u8], sha512: &[u8]) -> Tally
-    requires { length message.now ≤ maximum }
-{
-    let mut sum = t;
-    let mut at = 0;
-    while at < message.len() {
-        sum = pieces(sum, &message[..at], &message[at..], sha256, sha512);
-        at += 1;
-    }
-    pieces(sum, message, b"", sha256, sha512)
-}
-
-// A message by value and whole, or lent and cut.
-pub fn sha_case(t: Tally, lent: bool, message: &[u8], sha256: &[u8], sha512: &[u8]) -> Tally {
-    if MAXIMUM < message.len() {
+// Both digests of a message by value and whole.
+pub fn whole(t: Tally, message: &Message) -> Tally {
+    if MAXIMUM < message.text.len() {
         return t.plus(false);
     }
-    if lent {
-        return cuts(t, message, sha256, sha512);
-    }
-    let short = Sha256::new().feed(message).finish();
-    let long = Sha512::new().feed(message).finish();
-    t.plus(is_hex(&short, sha256)).plus(is_hex(&long, sha512))
+    let short = Sha256::new().feed(message.text).finish();
+    let long = Sha512::new().feed(message.text).finish();
+    t.plus(is_hex(&short, message.sha256))
+        .plus(is_hex(&long, message.sha512))
 }
 
-// A million of the letter a, a thousand at a time.
-fn million_sha256() -> [u8; 32]
-    ensures { length result ≡ 32 }
-{
-    let piece = [b'a'; 1000];
-    let mut state = Sha256::new();
-    let mut i: usize = 0;
-    while i < 1000 {
-        let fed = state.feed(&piece);
-        state = fed;
-        i += 1;
+// Both digests of a message that is fed to lent states in two pieces, for each place where it can be cut.
+pub fn cut(t: Tally, message: &Message) -> Tally {
+    if MAXIMUM < message.text.len() {
+        return t.plus(false);
     }
-    state.finish()
+    let mut sum = t;
+    for at in 0..=message.text.len() {
+        let (first, second) = message.text.split_at(at);
+        let short = digest::<Sha256, 64, 32>(first, second);
+        let long = digest::<Sha512, 128, 64>(first, second);
+        sum = sum
+            .plus(is_hex(&short, message.sha256))
+            .plus(is_hex(&long, message.sha512));
+    }
+    sum
 }
 
-fn million_sha512() -> [u8; 64]
-    ensures { length result ≡ 64 }
-{
+// The digest of a million of the letter a, a thousand at a time.
+fn million<H: Hash<BLOCK, DIGEST>, const BLOCK: usize, const DIGEST: usize>() -> [u8; DIGEST] {
     let piece = [b'a'; 1000];
-    let mut state = Sha512::new();
-    let mut i: usize = 0;
-    while i < 1000 {
-        let fed = state.feed(&piece);
-        state = fed;
-        i += 1;
+    let mut state = H::new();
+    for _ in 0..1000u64 {
+        state = state.feed(&piece);
     }
     state.finish()
 }
 
 pub fn million_case(t: Tally, sha256: &[u8], sha512: &[u8]) -> Tally {
-    let short = million_sha256();
-    let long = million_sha512();
+    let short = million::<Sha256, 64, 32>();
+    let long = million::<Sha512, 128, 64>();
     t.plus(is_hex(&short, sha256)).plus(is_hex(&long, sha512))
 }
 
@@ -170,8 +104,8 @@ pub fn hmac_case(t: Tally, key: &[u8], text: &[u8], sha256: &[u8], sha512: &[u8]
     if LARGEST < text.len() {
         return t.plus(false);
     }
-    let short = hmac_sha256(key, text);
-    let long = hmac_sha512(key, text);
+    let short = hmac_of::<Sha256, 64, 32>(key, text);
+    let long = hmac_of::<Sha512, 128, 64>(key, text);
     t.plus(front_is_hex(&short, sha256))
         .plus(front_is_hex(&long, sha512))
 }
@@ -180,7 +114,7 @@ pub fn hmac_case(t: Tally, key: &[u8], text: &[u8], sha256: &[u8], sha512: &[u8]
 fn expands(key: &[u8], info: &[u8], okm: &[u8], out: &mut [u8]) -> bool
     requires { (length key.now ≤ 32) × (length info.now ≤ largest) × (length out.old ≤ 82) }
 {
-    hkdf_expand_sha256(key, info, out);
+    hkdf_expand::<Sha256, 64, 32>(key, info, out);
     is_hex(out, okm)
 }
 
@@ -199,7 +133,7 @@ pub fn hkdf_case(t: Tally, ikm: &[u8], salt: &[u8], info: &[u8], prk: &[u8], okm
     if 82 < n {
         return t.plus(false);
     }
-    let key = hkdf_extract_sha256(salt, ikm);
+    let key = hkdf_extract::<Sha256, 64, 32>(salt, ikm);
     let mut out = [0u8; 82];
     let expanded = expands(&key, info, okm, &mut out[..n]);
     t.plus(is_hex(&key, prk)).plus(expanded)

@@ -5,11 +5,11 @@
 mod cases;
 mod vectors;
 
-use cases::Tally;
 use std::io;
+use vector_text::Tally;
 
 fn report(rt: &impl Print, name: &str, t: Tally) -> io::Result<()> {
-    println!(rt; "{name}: {} match, {} do not", t.matches, t.mismatches)
+    println!(rt; "{name}: {} match, {} do not", t.right, t.wrong)
 }
 
 fn main(rt: HostRuntime) -> io::Result<()> {

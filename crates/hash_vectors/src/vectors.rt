@@ -1,49 +1,33 @@
 // SPDX-License-Identifier: MIT
 // The published vectors. A case gives its input and, in hexadecimal, what is expected of it.
-use crate::cases::{Tally, count, hkdf_case, hmac_case, million_case, sha_case};
+use crate::cases::{Message, count, cut, hkdf_case, hmac_case, million_case, whole};
+use vector_text::Tally;
 
-// FIPS 180-4: the empty message, the examples of one and of two blocks, and a million of the letter
-// a. Each has the digest of SHA-256, and then that of SHA-512.
-fn no_message(t: Tally, lent: bool) -> Tally {
-    sha_case(
-        t,
-        lent,
-        b"",
-        b"e3b0c44298fc1c149afbf4c8996fb92427ae41e4649b934ca495991b7852b855",
-        b"cf83e1357eefb8bdf1542850d66d8007d620e4050b5715dc83f4a921d36ce9ce47d0d13c5d85f2b0ff8318d2877eec2f63b931bd47417a81a538327af927da3e",
-    )
-}
+// FIPS 180-4: the empty message, and the examples of one and of two blocks.
+const MESSAGES: [Message<'static>; 4] = [
+    Message {
+        text: b"",
+        sha256: b"e3b0c44298fc1c149afbf4c8996fb92427ae41e4649b934ca495991b7852b855",
+        sha512: b"cf83e1357eefb8bdf1542850d66d8007d620e4050b5715dc83f4a921d36ce9ce47d0d13c5d85f2b0ff8318d2877eec2f63b931bd47417a81a538327af927da3e",
+    },
+    Message {
+        text: b"abc",
+        sha256: b"ba7816bf8f01cfea414140de5dae2223b00361a396177a9cb410ff61f20015ad",
+        sha512: b"ddaf35a193617abacc417349ae20413112e6fa4e89a97ea20a9eeee64b55d39a2192992a274fc1a836ba3c23a3feebbd454d4423643ce80e2a9ac94fa54ca49f",
+    },
+    Message {
+        text: b"abcdbcdecdefdefgefghfghighijhijkijkljklmklmnlmnomnopnopq",
+        sha256: b"248d6a61d20638b8e5c026930c3e6039a33ce45964ff2167f6ecedd419db06c1",
+        sha512: b"204a8fc6dda82f0a0ced7beb8e08a41657c16ef468b228a8279be331a703c33596fd15c13b1b07f9aa1d3bea57789ca031ad85c7a71dd70354ec631238ca3445",
+    },
+    Message {
+        text: b"abcdefghbcdefghicdefghijdefghijkefghijklfghijklmghijklmnhijklmnoijklmnopjklmnopqklmnopqrlmnopqrsmnopqrstnopqrstu",
+        sha256: b"cf5b16a778af8380036ce59e7b0492370b249b11e8f07a51afac45037afee9d1",
+        sha512: b"8e959b75dae313da8cf4f72814fc143f8f7779c6eb9f7fa17299aeadb6889018501d289e4900f7e4331b99dec4b5433ac7d329eeb6dd26545e96e55b874be909",
+    },
+];
 
-fn one_block(t: Tally, lent: bool) -> Tally {
-    sha_case(
-        t,
-        lent,
-        b"abc",
-        b"ba7816bf8f01cfea414140de5dae2223b00361a396177a9cb410ff61f20015ad",
-        b"ddaf35a193617abacc417349ae20413112e6fa4e89a97ea20a9eeee64b55d39a2192992a274fc1a836ba3c23a3feebbd454d4423643ce80e2a9ac94fa54ca49f",
-    )
-}
-
-fn two_blocks_of_64(t: Tally, lent: bool) -> Tally {
-    sha_case(
-        t,
-        lent,
-        b"abcdbcdecdefdefgefghfghighijhijkijkljklmklmnlmnomnopnopq",
-        b"248d6a61d20638b8e5c026930c3e6039a33ce45964ff2167f6ecedd419db06c1",
-        b"204a8fc6dda82f0a0ced7beb8e08a41657c16ef468b228a8279be331a703c33596fd15c13b1b07f9aa1d3bea57789ca031ad85c7a71dd70354ec631238ca3445",
-    )
-}
-
-fn two_blocks_of_128(t: Tally, lent: bool) -> Tally {
-    sha_case(
-        t,
-        lent,
-        b"abcdefghbcdefghicdefghijdefghijkefghijklfghijklmghijklmnhijklmnoijklmnopjklmnopqklmnopqrlmnopqrsmnopqrstnopqrstu",
-        b"cf5b16a778af8380036ce59e7b0492370b249b11e8f07a51afac45037afee9d1",
-        b"8e959b75dae313da8cf4f72814fc143f8f7779c6eb9f7fa17299aeadb6889018501d289e4900f7e4331b99dec4b5433ac7d329eeb6dd26545e96e55b874be909",
-    )
-}
-
+// FIPS 180-4: a million of the letter a, with the digest of SHA-256, and then that of SHA-512.
 fn million(t: Tally) -> Tally {
     million_case(
         t,
@@ -52,20 +36,24 @@ fn million(t: Tally) -> Tally {
     )
 }
 
-fn messages(lent: bool) -> Tally {
-    let t = no_message(Tally::new(), lent);
-    let t = one_block(t, lent);
-    let t = two_blocks_of_64(t, lent);
-    two_blocks_of_128(t, lent)
+// Runs a case of each message.
+fn messages<F: Fn(Tally, &Message) -> Tally>(case: F) -> Tally
+    requires { F.IsAlwaysCallable case }
+{
+    let mut t = Tally::new();
+    for message in &MESSAGES {
+        t = case(t, message);
+    }
+    t
 }
 
-// The same messages cut at every place, and fed to lent states.
+// The messages cut at every place, and fed to lent states.
 pub fn lent_cases() -> Tally {
-    messages(true)
+    messages(cut)
 }
 
 pub fn sha_cases() -> Tally {
-    million(messages(false))
+    million(messages(whole))
 }
 
 // RFC 4231, section 4: test cases 1 to 7. Each has the tag of HMAC-SHA-256, and then that of

@@ -4,359 +4,208 @@
 // whose reader must show the KID, the counter, the header and the bytes after it.
 #![tactic(auto)]
 
-ghost use Rattle.std.specs.Prelude.{◌≡◌, ◌≤◌, ◌<◌, length};
-
-use header::{Ctr, Header, Kid};
+use header::{Ctr, Kid};
+use std::alloc::{AllocError, Global};
 use std::io::{self, Read};
+use vector_text::Tally;
 
 // The most bytes of standard input that are judged.
 const MOST: u64 = 65536;
 
-// The longest line of bytes that is kept: a header is at most 17.
+// The most bytes of a header that are kept, as it has 17 at most, and those of a frame.
 const ROOM: usize = 32;
 
 // What the room holds before a header is written to it.
 const PATTERN: u8 = 0xa5;
 
-#[derive(Clone, Copy)]
-struct Parsed {
-    value: u64,
-    next: usize,
+// A KID, a CTR and a header as they are spelt, and the frame of that header and zeros.
+#[derive(Drop)]
+struct Case {
+    kid: Kid,
+    ctr: Ctr,
+    header: Vec<u8>,
+    frame: Vec<u8>,
 }
 
+// The groups that are counted.
 #[derive(Clone, Copy)]
-struct Bytes {
-    bytes: [u8; 32],
-    len: usize,
-}
-
-// What is tried of a KID, a CTR and a header: the header in its shortest form or a longer one, or a frame that begins with it.
-#[derive(Clone, Copy)]
-enum Trial {
-    Shortest,
+enum Group {
+    Vectors,
+    Edges,
     Longer,
-    Frame,
+    Refused,
 }
 
 #[derive(Clone, Copy)]
-enum Line {
-    Vector(bool),
-    Edge(bool),
-    Longer(bool),
-    Refused(bool),
-    Comment,
+struct Counts {
+    vectors: Tally,
+    edges: Tally,
+    longer: Tally,
+    refused: Tally,
+    frames: Tally,
 }
 
-#[derive(Clone, Copy)]
-struct Tally {
-    right: u64,
-    wrong: u64,
+// What follows the letter of a line and the space behind it.
+fn columns(line: &[u8]) -> &[u8] {
+    line.get(2..).unwrap_or(b"")
 }
 
-// A hexadecimal digit's value, or 16 for any other byte.
-fn digit(b: u8) -> u8
-    ensures { result ≤ 16 }
-{
-    match b {
-        b'0'..=b'9' => b - b'0',
-        b'a'..=b'f' => b - b'a' + 10,
-        _ => 16,
-    }
+// The case that a line spells, or None where it ends before the header's column.
+fn case_of(alloc: Global, line: &[u8]) -> Result<Option<Case>, AllocError> {
+    let (kid, rest) = vector_text::number(columns(line));
+    let Some((_, rest)) = rest.split_first() else {
+        return Ok(None);
+    };
+    let (ctr, rest) = vector_text::number(rest);
+    let Some((_, rest)) = rest.split_first() else {
+        return Ok(None);
+    };
+    let header = vector_text::bytes(alloc, rest, ROOM)?;
+    let mut frame = header.clone()?;
+    frame.resize(ROOM, 0)?;
+    Ok(Some(Case {
+        kid: Kid(kid),
+        ctr: Ctr(ctr),
+        header,
+        frame,
+    }))
 }
 
-// The hexadecimal number at index i of s, and the index after its digits.
-fn number(s: &[u8], i: usize) -> Parsed {
-    let mut value: u64 = 0;
-    let mut next = i;
-    while next < s.len() {
-        let d = digit(s[next]);
-        if 15 < d {
-            return Parsed { value, next };
-        }
-        value = value % 0x1000_0000_0000_0000 * 16 + d as u64;
-        next += 1;
-    }
-    Parsed { value, next }
-}
-
-// The bytes spelt at index i of s, two digits each, up to the room's size.
-fn encoded(s: &[u8], i: usize) -> Bytes
-    ensures { length result.bytes ≡ 32 }
-{
-    let mut bytes = [0u8; 32];
-    let mut len = 0;
-    while len < ROOM {
-        let high = at(s, i, 2 * len);
-        let low = at(s, i, 2 * len + 1);
-        if 15 < high || 15 < low {
-            return Bytes { bytes, len };
-        }
-        bytes[len] = high % 16 * 16 + low % 16;
-        len += 1;
-    }
-    Bytes { bytes, len }
-}
-
-// The digit k places after index i of s, or 16 where there is none.
-fn at(s: &[u8], i: usize, k: usize) -> u8
-    ensures { result ≤ 16 }
-{
-    if s.len() <= i {
-        return 16;
-    }
-    if s.len() - i <= k {
-        return 16;
-    }
-    digit(s[i + k])
-}
-
-// Whether every byte of s is the pattern.
+// Whether every byte is the pattern.
 fn untouched(s: &[u8]) -> bool {
-    let mut i = 0;
-    while i < s.len() {
-        if s[i] != PATTERN {
-            return false;
-        }
-        i += 1;
-    }
-    true
+    s.iter().all(|b| *b == PATTERN)
 }
 
-// Whether the header of kid and ctr is written to a room of patterns as the bytes wanted, with
-// nothing changed past them.
-fn writes(room: &mut [u8], kid: u64, ctr: u64, want: &[u8]) -> bool {
-    let n = want.len();
-    if room.len() < n {
-        return false;
-    }
-    let Some(k) = header::write_header(Kid(kid), Ctr(ctr), room) else {
+// Whether the case's header is what is written to a room of patterns, with nothing changed past it.
+fn writes(case: &Case) -> bool {
+    let mut room = [PATTERN; ROOM];
+    let Some(n) = header::write_header(case.kid, case.ctr, &mut room) else {
         return false;
     };
-    if k != n {
+    if n != case.header.len() {
         return false;
     }
-    octets::equal(&room[..n], want) && untouched(&room[n..])
+    room.strip_prefix(case.header.as_slice())
+        .is_some_and(untouched)
 }
 
-// Whether a room of patterns one byte shorter than n is refused and left alone.
-fn needs(room: &mut [u8], kid: u64, ctr: u64, n: usize) -> bool {
-    if n == 0 {
-        return false;
-    }
-    if room.len() < n {
-        return false;
-    }
-    let short = n - 1;
-    let None = header::write_header(Kid(kid), Ctr(ctr), &mut room[..short]) else {
+// Whether a room of patterns one byte shorter than the case's header is refused and left alone.
+fn needs(case: &Case) -> bool {
+    let mut room = [PATTERN; ROOM];
+    let Some((_, most)) = case.header.split_last() else {
         return false;
     };
-    untouched(room)
-}
-
-// Whether kid, ctr and the length n are read from the front of the bytes.
-fn reads(bytes: &[u8], kid: u64, ctr: u64, n: usize) -> bool {
-    match header::read_header(bytes) {
-        Some(
-            Header {
-                kid: k,
-                ctr: c,
-                length: m,
-            },
-        ) => k.0 == kid && c.0 == ctr && m == n,
-        None => false,
-    }
-}
-
-// Whether kid and ctr are read from the first n of these bytes, alone and with the others after them.
-fn reads_back(kid: u64, ctr: u64, bytes: &[u8], n: usize) -> bool {
-    if bytes.len() < n {
-        return false;
-    }
-    reads(&bytes[..n], kid, ctr, n) && reads(bytes, kid, ctr, n)
-}
-
-// Whether kid and ctr are written as the first n of these bytes, and read from them.
-fn agrees(kid: u64, ctr: u64, bytes: &[u8], n: usize) -> bool {
-    if bytes.len() < n {
-        return false;
-    }
-    let mut room = [PATTERN; 32];
-    let mut short = [PATTERN; 32];
-    writes(&mut room, kid, ctr, &bytes[..n])
-        && needs(&mut short, kid, ctr, n)
-        && reads_back(kid, ctr, bytes, n)
-}
-
-// Whether kid and ctr are read from the first n of these bytes, and written in fewer.
-fn longer(kid: u64, ctr: u64, bytes: &[u8], n: usize) -> bool {
-    let mut room = [PATTERN; 32];
-    let Some(k) = header::write_header(Kid(kid), Ctr(ctr), &mut room) else {
+    let Some(short) = room.get_mut(..most.len()) else {
         return false;
     };
-    k < n && reads_back(kid, ctr, bytes, n)
+    header::write_header(case.kid, case.ctr, short).is_none() && untouched(&room)
 }
 
-// Whether a frame is shown as kid, ctr, its first n bytes and those after them.
-fn shows(frame: &[u8], kid: u64, ctr: u64, n: usize) -> bool {
-    if frame.len() < n {
+// Whether the case's KID, CTR and length are read from the front of the bytes.
+fn reads(bytes: &[u8], case: &Case) -> bool {
+    let Some(read) = header::read_header(bytes) else {
         return false;
-    }
-    frame::kid_of(frame).0 == kid
-        && frame::ctr_of(frame).0 == ctr
-        && octets::equal(frame::header_of(frame), &frame[..n])
-        && octets::equal(frame::rest_of(frame), &frame[n..])
+    };
+    read.kid.0 == case.kid.0 && read.ctr.0 == case.ctr.0 && read.length == case.header.len()
 }
 
-// Judges the KID, CTR and header that are spelt in a line.
-fn pair(line: &[u8], trial: Trial) -> bool {
-    let kid = number(line, 2);
-    if line.len() <= kid.next {
+// Whether the case is read from its header alone, and from its frame.
+fn reads_back(case: &Case) -> bool {
+    reads(&case.header, case) && reads(&case.frame, case)
+}
+
+// Whether the case's header is read, and written in fewer bytes.
+fn longer(case: &Case) -> bool {
+    let mut room = [PATTERN; ROOM];
+    let Some(n) = header::write_header(case.kid, case.ctr, &mut room) else {
         return false;
-    }
-    let ctr = number(line, kid.next + 1);
-    if line.len() <= ctr.next {
+    };
+    n < case.header.len() && reads_back(case)
+}
+
+// Whether a frame is shown as this KID and CTR, this header and the bytes after it.
+fn shows(frame: &[u8], kid: Kid, ctr: Ctr, header: &[u8]) -> bool {
+    let Some(rest) = frame.strip_prefix(header) else {
         return false;
-    }
-    let e = encoded(line, ctr.next + 1);
-    let bytes = e.bytes;
-    match trial {
-        Trial::Shortest => agrees(kid.value, ctr.value, &bytes, e.len),
-        Trial::Longer => longer(kid.value, ctr.value, &bytes, e.len),
-        Trial::Frame => shows(&bytes, kid.value, ctr.value, e.len),
-    }
+    };
+    frame::kid_of(frame).0 == kid.0
+        && frame::ctr_of(frame).0 == ctr.0
+        && frame::header_of(frame) == header
+        && frame::rest_of(frame) == rest
 }
 
-// Whether the first n of these bytes are refused.
-fn refuses(bytes: &[u8], n: usize) -> bool {
-    if bytes.len() < n {
-        return false;
-    }
-    match header::read_header(&bytes[..n]) {
-        Some(_) => false,
-        None => true,
-    }
-}
-
-// Whether the bytes spelt in a line are shown as a frame without a header.
-fn refused_frame(line: &[u8]) -> bool {
-    let e = encoded(line, 2);
-    let bytes = e.bytes;
-    let n = e.len;
-    if bytes.len() < n {
-        return false;
-    }
-    shows(&bytes[..n], 0, 0, 0)
-}
-
-// The count with what a line spells as a frame.
-fn framed(t: Tally, line: &[u8]) -> Tally {
-    if line.len() == 0 {
-        return t;
-    }
-    let kind = line[0];
-    match kind {
-        b'v' | b'e' | b'l' => counted(t, pair(line, Trial::Frame)),
-        b'r' => counted(t, refused_frame(line)),
-        _ => t,
-    }
-}
-
-fn judge(line: &[u8]) -> Line {
-    if line.len() == 0 {
-        return Line::Comment;
-    }
-    let kind = line[0];
-    match kind {
-        b'v' => Line::Vector(pair(line, Trial::Shortest)),
-        b'e' => Line::Edge(pair(line, Trial::Shortest)),
-        b'l' => Line::Longer(pair(line, Trial::Longer)),
-        b'r' => {
-            let e = encoded(line, 2);
-            let bytes = e.bytes;
-            Line::Refused(refuses(&bytes, e.len))
+// The group of a line, whether its case comes out right, and whether its frame does; None for a comment.
+fn judge(alloc: Global, line: &[u8]) -> Result<Option<(Group, bool, bool)>, AllocError> {
+    let group = match line.first() {
+        Some(b'v') => Group::Vectors,
+        Some(b'e') => Group::Edges,
+        Some(b'l') => Group::Longer,
+        Some(b'r') => Group::Refused,
+        _ => return Ok(None),
+    };
+    let (right, shown) = match group {
+        Group::Refused => {
+            let bytes = vector_text::bytes(alloc, columns(line), ROOM)?;
+            (
+                header::read_header(&bytes).is_none(),
+                shows(&bytes, Kid(0), Ctr(0), b""),
+            )
         }
-        _ => Line::Comment,
-    }
+        _ => match case_of(alloc, line)? {
+            Some(case) => (
+                match group {
+                    Group::Longer => longer(&case),
+                    _ => writes(&case) && needs(&case) && reads_back(&case),
+                },
+                shows(&case.frame, case.kid, case.ctr, &case.header),
+            ),
+            None => (false, false),
+        },
+    };
+    Ok(Some((group, right, shown)))
 }
 
-// The index after the line of s that starts at i.
-fn line_end(s: &[u8], i: usize) -> usize
-    requires { i < length s.now }
-    ensures { (i < result) × (result ≤ length s.now) }
-{
-    let mut j = i;
-    while j + 1 < s.len() {
-        if s[j] == b'\n' {
-            return j + 1;
+impl Counts {
+    fn new() -> Counts {
+        let none = Tally::new();
+        Counts {
+            vectors: none,
+            edges: none,
+            longer: none,
+            refused: none,
+            frames: none,
         }
-        j += 1;
     }
-    s.len()
-}
 
-fn counted(t: Tally, right: bool) -> Tally {
-    if right {
-        Tally {
-            right: t.right % 1_000_000 + 1,
-            wrong: t.wrong,
-        }
-    } else {
-        Tally {
-            right: t.right,
-            wrong: t.wrong % 1_000_000 + 1,
-        }
+    // A line of a group more.
+    fn count(&mut self, group: Group, right: bool, shown: bool) {
+        let tally = match group {
+            Group::Vectors => &mut self.vectors,
+            Group::Edges => &mut self.edges,
+            Group::Longer => &mut self.longer,
+            Group::Refused => &mut self.refused,
+        };
+        *tally = tally.plus(right);
+        self.frames = self.frames.plus(shown);
     }
 }
 
 fn print(rt: &impl Print, name: &str, t: Tally) -> io::Result<()> {
-    println!(rt; "{name}{} right, {} wrong", t.right, t.wrong)
-}
-
-// Judges each line of s, and prints the groups' counts.
-fn run(rt: &impl Print, s: &[u8]) -> io::Result<()> {
-    let mut vectors = Tally { right: 0, wrong: 0 };
-    let mut edges = Tally { right: 0, wrong: 0 };
-    let mut longer = Tally { right: 0, wrong: 0 };
-    let mut refused = Tally { right: 0, wrong: 0 };
-    let mut i = 0;
-    while i < s.len() {
-        let e = line_end(s, i);
-        match judge(&s[i..e]) {
-            Line::Vector(ok) => vectors = counted(vectors, ok),
-            Line::Edge(ok) => edges = counted(edges, ok),
-            Line::Longer(ok) => longer = counted(longer, ok),
-            Line::Refused(ok) => refused = counted(refused, ok),
-            Line::Comment => {}
-        }
-        i = e;
-    }
-    print(rt, "vectors: ", vectors)?;
-    print(rt, "edges: ", edges)?;
-    print(rt, "longer: ", longer)?;
-    print(rt, "refused: ", refused)
-}
-
-// Judges each line of s as a frame.
-fn frames(s: &[u8]) -> Tally {
-    let mut t = Tally { right: 0, wrong: 0 };
-    let mut i = 0;
-    while i < s.len() {
-        let e = line_end(s, i);
-        t = framed(t, &s[i..e]);
-        i = e;
-    }
-    t
-}
-
-// The front of standard input, as far as it is judged.
-fn front(rt: &(impl Input + AllocGlobal)) -> io::Result<Vec<u8>> {
-    let mut input = Vec::new(rt.alloc());
-    rt.reader().take(MOST).read_to_end(&mut input)?;
-    Ok(input)
+    println!(rt; "{name}: {} right, {} wrong", t.right, t.wrong)
 }
 
 fn main(rt: HostRuntime) -> io::Result<()> {
-    let input = front(&rt)?;
-    run(&rt, &input)?;
-    print(&rt, "frames: ", frames(&input))
+    let mut input = Vec::new(rt.alloc());
+    rt.reader().take(MOST).read_to_end(&mut input)?;
+    let mut counts = Counts::new();
+    for line in input.split(|b| *b == b'\n') {
+        if let Some((group, right, shown)) = judge(rt.alloc(), line)? {
+            counts.count(group, right, shown);
+        }
+    }
+    print(&rt, "vectors", counts.vectors)?;
+    print(&rt, "edges", counts.edges)?;
+    print(&rt, "longer", counts.longer)?;
+    print(&rt, "refused", counts.refused)?;
+    print(&rt, "frames", counts.frames)
 }

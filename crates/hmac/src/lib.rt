@@ -1,23 +1,18 @@
 // SPDX-License-Identifier: MIT
-// HMAC, RFC 2104, and HKDF, RFC 5869, with SHA-256 and with SHA-512.
+// HMAC, RFC 2104, and HKDF, RFC 5869, over a hash of the SHA-2 family.
 #![tactic(auto)]
 
-mod with_sha256;
-mod with_sha512;
+mod hkdf;
+mod keyed;
 
-ghost use Rattle.std.specs.Prelude.{◌≡◌, min};
+pub use hkdf::{hkdf_expand, hkdf_extract};
+pub use keyed::{Hmac, block_key, hmac_of, masked_block};
+use sha256::Sha256;
+use sha512::Sha512;
 
-pub use with_sha256::{
-    HmacSha256, block_key, hkdf_expand_sha256, hkdf_extract_sha256, hmac_sha256, masked_block,
-};
-pub use with_sha512::{HmacSha512, hkdf_expand_sha512, hkdf_extract_sha512, hmac_sha512};
+pub type HmacSha256 = Hmac<Sha256, 64, 32>;
 
-// The lesser of two numbers.
-fn least(a: usize, b: usize) -> usize
-    ensures { result ≡ min a b }
-{
-    if a < b { a } else { b }
-}
+pub type HmacSha512 = Hmac<Sha512, 128, 64>;
 
 // The most bytes of a key, of a text that is given whole, and of HKDF's info.
 pub const LARGEST: usize = 0x8000_0000;

@@ -2,18 +2,18 @@
 -- One turn of each loop of this crate, over plain variables. Assumes nothing.
 use mathlib.Core.Path.{◌≡◌, refl, sym, ◌∙◌, ap, ap₂}
 use mathlib.Core.List.{List, [], ◌∷◌, ◌++◌, append_assoc, append-nil}
-use Prim.Native.Nat.{ℕ, suc, ◌+◌, ◌*◌, ◌/◌, ◌%◌, ◌^◌, ◌-◌, ◌<◌, ◌≤◌}
-use native.Mathlib.Nat.{zero-add, add_comm, sub_self, sub-zero, pow-zero, div-one, div-div-eq-div-mul, pow-suc, pow-le-pow_right, lt_of_lt_of_le}
+use Prim.Native.Nat.{ℕ, zero, suc, ◌+◌, ◌*◌, ◌/◌, ◌%◌, ◌^◌, ◌-◌, ◌<◌, ◌≤◌}
+use native.Mathlib.Nat.{sub_self, sub-zero, pow-zero, div-one, div-div-eq-div-mul, pow-suc, pow-le-pow_right, lt_of_lt_of_le}
 use native.Mathlib.Numerals.{add-one, one-add}
 use native.Mathlib.Omega.{arith}
 use lib.Arith.{digits_lt}
 use lib.Bits.{bit_or, bit_xor, xor_self, or_zero_l}
-use lib.ListN.{length, get_or, take, drop, set, replicate, length-append, replicate-append-replicate, length-replicate, take-append-drop, length-drop}
-use lib.Seq.{take_at, drop_at, take-suc, drop-cons, set_at, get_or_at, take_all, get_or-drop, drop-length, take-length, get_or-take, take-take, length-take-le}
-use borrow.Rule.Slice.PartMut.{put_mid}
-use Rattle.octets.specs.Octets.{number, bytes, pasted, xors}
+use lib.ListN.{length, get_or, take, drop, set, take-append-drop}
+use lib.Seq.{take-suc, drop-cons, set_at, get_or_at, take_all, get_or-drop, drop-length, get_or-take, take-take, length-take-le}
+use Rattle.std.specs.Int.{w32, w64, from_be_bytes, bytes_high_first}
+use Rattle.octets.specs.Octets.{number, bytes, xors}
 use Rattle.octets.proofs.Bits.{or-zero, xor-zero}
-use Rattle.octets.proofs.Laws.{number-suc, number-add, bytes-zero, bytes-suc, bytes-length, bytes-mod, bytes-add, xors-length, part-rest, pasted-front, pasted-append, lent-pasted}
+use Rattle.octets.proofs.Laws.{number-suc, bytes-zero, bytes-suc, bytes-length, xors-length}
 
 -- a list filled front to back takes one element more
 pub fill-next : (x l : List ℕ) (i v : ℕ) → length x ≡ i → i < length l → set (x ++ drop i l) i v ≡ (x ++ (v ∷ [])) ++ drop (i + 1) l
@@ -40,13 +40,15 @@ number-done x n i l h k e q =
     let w : i ≡ n = omega arith in
     (e ∙ ap (λ (m : ℕ). number m l) w, rw w at q)
 
--- reading four bytes, and twice four
-pub number-four : (l : List ℕ) → ((get_or l 0 0 * 256 + get_or l 1 0) * 256 + get_or l 2 0) * 256 + get_or l 3 0 ≡ number 4 l
+-- the library's number of four bytes and of eight
+pub number-four : (l : List ℕ) → from_be_bytes w32 (get_or l 0 0 ∷ get_or l 1 0 ∷ get_or l 2 0 ∷ get_or l 3 0 ∷ []) ≡ number 4 l
 unfolding number
-number-four l = ap (λ (d : ℕ). ((d * 256 + get_or l 1 0) * 256 + get_or l 2 0) * 256 + get_or l 3 0) (sym (zero-add (get_or l 0 0)))
+number-four l = omega arith
 
-pub number-eight : (a b : ℕ) (l : List ℕ) → a ≡ number 4 l → b ≡ number 4 (take (length l - 4) (drop 4 l)) → a * 4294967296 + b ≡ number 8 l
-number-eight a b l p q = rw (p, q, part-rest 4 l) (sym (number-add 4 4 l))
+pub number-eight : (l : List ℕ)
+    → from_be_bytes w64 (get_or l 0 0 ∷ get_or l 1 0 ∷ get_or l 2 0 ∷ get_or l 3 0 ∷ get_or l 4 0 ∷ get_or l 5 0 ∷ get_or l 6 0 ∷ get_or l 7 0 ∷ []) ≡ number 8 l
+unfolding number
+number-eight l = omega arith
 
 -- writing: one byte more, from the last to the first
 bytes-before : (l t : List ℕ) (x j k : ℕ) → j < length l → set (take (suc j) l ++ (bytes k x ++ t)) j (x / 256 ^ k % 256) ≡ take j l ++ (bytes (suc k) x ++ t)
@@ -79,49 +81,18 @@ bytes-done o l n x i h e =
     let z : i ≡ 0 = omega arith in
     e ∙ ap (λ (k : ℕ). take k l ++ (bytes (n - k) x ++ drop n l)) z ∙ ap (λ (k : ℕ). bytes k x ++ drop n l) (sub-zero n)
 
--- writing four bytes, and twice four
-pub bytes-four : (l : List ℕ) (x : ℕ) → 4 ≤ length l
-    → set (set (set (set l 0 (x / 16777216 % 256)) 1 (x / 65536 % 256)) 2 (x / 256 % 256)) 3 (x % 256) ≡ bytes 4 x ++ drop 4 l
+-- the library's bytes of a number
+pub bytes-high : (n x : ℕ) → bytes_high_first n x ≡ bytes n x
 unfolding bytes
-bytes-four [] x h = absurd (omega arith)
-bytes-four (a ∷ []) x h = absurd (omega arith)
-bytes-four (a ∷ b ∷ []) x h = absurd (omega arith)
-bytes-four (a ∷ b ∷ c ∷ []) x h = absurd (omega arith)
-bytes-four (a ∷ b ∷ c ∷ d ∷ l) x h =
-    ap (λ (k : ℕ). (x / 16777216 % 256) ∷ (x / 65536 % 256) ∷ (x / 256 % 256) ∷ (k % 256) ∷ l) (sym (div-one x))
+bytes-high zero x = refl
+bytes-high (suc zero) x = ap (λ (k : ℕ). (k % 256) ∷ []) (sym (div-one x))
+bytes-high (suc (suc n)) x = ap (λ (t : List ℕ). (x / 256 ^ suc n % 256) ∷ t) (bytes-high (suc n) x)
 
-pub bytes-eight : (o p l : List ℕ) (x : ℕ) → 8 ≤ length l → o ≡ bytes 4 (x / 4294967296) ++ drop 4 l
-    → p ≡ bytes 4 (x % 4294967296) ++ drop 4 (take (length o - 4) (drop 4 o)) → put_mid 4 (length o - 4) o p ≡ bytes 8 x ++ drop 8 l
-bytes-eight o p l x h e q =
-    let hi = bytes 4 (x / 4294967296) in
-    let lo = bytes 4 x in
-    let n : length o ≡ length l = ap length e ∙ simp (length-append, length-drop, bytes-length) (omega arith) in
-    let w : p ≡ lo ++ drop (length lo) (take (length o - 4) (drop 4 o)) = q ∙ rw (bytes-mod 4 x, bytes-length 4 x) in
-    lent-pasted o p lo 4 (length o - 4) (rw bytes-length (omega arith)) (omega arith) w
-    ∙ ap (λ (t : List ℕ). pasted t 4 lo) (e ∙ rw (pasted-front l hi, bytes-length 4 (x / 4294967296)))
-    ∙ joined hi lo (bytes-length 4 (x / 4294967296)) (bytes-length 4 x)
-    ∙ pasted-front l (hi ++ lo)
-    ∙ rw (bytes-add 4 4 x, length-append, bytes-length, bytes-length)
-  where
-    joined : (a b : List ℕ) → length a ≡ 4 → length b ≡ 4 → pasted (pasted l 0 a) 4 b ≡ pasted l 0 (a ++ b)
-    joined a b s t = ap (λ (k : ℕ). pasted (pasted l 0 a) k b) (sym (zero-add (length a) ∙ s)) ∙ pasted-append l 0 a b (omega arith)
-
--- copying: one byte more
-pub copy-next : (o s l : List ℕ) (i : ℕ) → i < length s → i < length l → o ≡ take i s ++ drop i l → set o i (get_or s i 0) ≡ take (i + 1) s ++ drop (i + 1) l
-copy-next o s l i h k q =
-    ap (λ (t : List ℕ). set t i (get_or s i 0)) q
-    ∙ fill-next (take i s) l i (get_or s i 0) (length-take-le i s (omega arith)) k ∙ ap (λ (t : List ℕ). t ++ drop (i + 1) l) (sym (take-suc s i 0 h) ∙ ap (λ (n : ℕ). take n s) (sym (add-one i)))
-
-pub copied : (o s l : List ℕ) (i : ℕ) → i ≤ length s → length s ≤ i → o ≡ take i s ++ drop i l → o ≡ s ++ drop (length s) l
-copied o s l i h k q =
-    let e : i ≡ length s = omega arith in
-    q ∙ ap (λ (n : ℕ). take n s ++ drop n l) e ∙ ap (λ (t : List ℕ). t ++ drop (length s) l) (take-length s)
-
--- clearing: one byte more
-pub clear_next : (o l : List ℕ) (i : ℕ) → i < length l → o ≡ replicate i 0 ++ drop i l → set o i 0 ≡ replicate (i + 1) 0 ++ drop (i + 1) l
-clear_next o l i h q =
-    ap (λ (t : List ℕ). set t i 0) q
-    ∙ fill-next (replicate i 0) l i 0 (length-replicate i 0) h ∙ ap (λ (t : List ℕ). t ++ drop (i + 1) l) (replicate-append-replicate i 1 0)
+-- and written to the front of a list
+pub written-high : (n x : ℕ) (b l o : List ℕ) → b ≡ bytes_high_first n x → o ≡ b ++ drop (length b) l → o ≡ bytes n x ++ drop n l
+written-high n x b l o e q =
+    let f : b ≡ bytes n x = e ∙ bytes-high n x in
+    q ∙ ap (λ (t : List ℕ). t ++ drop (length t) l) f ∙ ap (λ (k : ℕ). bytes n x ++ drop k l) (bytes-length n x)
 
 -- XOR: one byte more
 xors-snoc : (x y : List ℕ) (v : ℕ) → xors (x ++ (v ∷ [])) y ≡ xors x y ++ (bit_xor v (get_or y (length x) 0) ∷ [])
@@ -166,56 +137,3 @@ differ-before d i a b h k q e =
 
 pub taken-all : (i : ℕ) (a b : List ℕ) → length a ≤ i → length b ≤ i → take i a ≡ take i b → a ≡ b
 taken-all i a b h k e = sym (take_all i a h) ∙ e ∙ take_all i b k
-
--- moving up: one byte more, from the last to the first
-pub up_start : (l : List ℕ) (n : ℕ) → n ≤ length l → l ≡ take (length l) l ++ drop (length l - n) (take (length l - n) l)
-up_start l n h =
-    let t = take (length l - n) l in
-    let e : length t ≡ length l - n = length-take-le (length l - n) l (omega arith) in
-    sym (append-nil l) ∙ ap₂ (λ (a b : List ℕ). a ++ b) (sym (take-length l)) (sym (ap (λ (k : ℕ). drop k t) (sym e) ∙ drop-length t))
-
-pub up_next : (o l : List ℕ) (n i : ℕ) → n < i → i ≤ length l → o ≡ take i l ++ drop (i - n) (take (length l - n) l)
-    → set o (i - 1) (get_or o (i - 1 - n) 0) ≡ take (i - 1) l ++ drop (i - 1 - n) (take (length l - n) l)
-up_next o l n i p h q =
-    let t = take (length l - n) l in
-    let s : i ≡ suc (i - 1) = omega arith in
-    let s' : i - n ≡ suc (i - 1 - n) = omega arith in
-    let lt : length t ≡ length l - n = length-take-le (length l - n) l (omega arith) in
-    let front : take i l ≡ take (i - 1) l ++ (get_or l (i - 1) 0 ∷ []) = ap (λ (k : ℕ). take k l) s ∙ take-suc l (i - 1) 0 (omega arith) in
-    let o' : o ≡ take (i - 1) l ++ (get_or l (i - 1) 0 ∷ drop (i - n) t) = q ∙ ap (λ (x : List ℕ). x ++ drop (i - n) t) front ∙ append_assoc (take (i - 1) l) (get_or l (i - 1) 0 ∷ []) (drop (i - n) t) in
-    let v : get_or o (i - 1 - n) 0 ≡ get_or l (i - 1 - n) 0 =
-    sym (get_or-take i o (i - 1 - n) 0 (omega arith))
-    ∙ ap (λ (x : List ℕ). get_or x (i - 1 - n) 0) (ap (take i) q ∙ take_at (take i l) (drop (i - n) t) i (length-take-le i l h))
-    ∙ get_or-take i l (i - 1 - n) 0 (omega arith)
-    in
-    let w : get_or t (i - 1 - n) 0 ≡ get_or l (i - 1 - n) 0 = get_or-take (length l - n) l (i - 1 - n) 0 (omega arith) in
-    let d : drop (i - 1 - n) t ≡ get_or l (i - 1 - n) 0 ∷ drop (i - n) t =
-    drop-cons t (i - 1 - n) 0 (omega arith) ∙ ap₂ (λ (x : ℕ) (y : List ℕ). x ∷ y) w (ap (λ (k : ℕ). drop k t) (sym s'))
-    in
-    ap₂ (λ (x : List ℕ) (y : ℕ). set x (i - 1) y) o' v
-    ∙ set_at (take (i - 1) l) (get_or l (i - 1) 0) (drop (i - n) t) (get_or l (i - 1 - n) 0) (i - 1) (length-take-le (i - 1) l (omega arith))
-    ∙ ap (λ (x : List ℕ). take (i - 1) l ++ x) (sym d)
-
-pub up_done : (o l : List ℕ) (n i : ℕ) → n ≤ i → i ≤ n → o ≡ take i l ++ drop (i - n) (take (length l - n) l) → o ≡ take n l ++ take (length l - n) l
-up_done o l n i h k q =
-    let e : i ≡ n = omega arith in
-    q ∙ ap (λ (m : ℕ). take m l ++ drop (m - n) (take (length l - n) l)) e ∙ ap (λ (m : ℕ). take n l ++ drop m (take (length l - n) l)) (sub_self n)
-
--- moving down: one byte more, as in copying what stands n places further on
-pub down-next : (o l : List ℕ) (n i : ℕ) → n ≤ length l → i < length l - n → o ≡ take i (drop n l) ++ drop i l
-    → set o i (get_or o (i + n) 0) ≡ take (i + 1) (drop n l) ++ drop (i + 1) l
-down-next o l n i h k q =
-    let d = length-drop n l in
-    let v : get_or o (i + n) 0 ≡ get_or (drop n l) i 0 =
-    sym (get_or-drop i o n 0)
-    ∙ ap (λ (t : List ℕ). get_or t n 0) (ap (drop i) q ∙ drop_at (take i (drop n l)) (drop i l) i (length-take-le i (drop n l) (omega arith)))
-    ∙ get_or-drop i l n 0
-    ∙ ap (λ (j : ℕ). get_or l j 0) (add_comm i n)
-    ∙ sym (get_or-drop n l i 0)
-    in
-    ap (set o i) v ∙ copy-next o (drop n l) l i (omega arith) (omega arith) q
-
-pub down-done : (o l : List ℕ) (n i : ℕ) → n ≤ length l → i ≤ length l - n → length l - n ≤ i → o ≡ take i (drop n l) ++ drop i l → o ≡ drop n l ++ drop (length l - n) l
-down-done o l n i h j k q =
-    let d = length-drop n l in
-    copied o (drop n l) l i (omega arith) (omega arith) q ∙ ap (λ (m : ℕ). drop n l ++ drop m l) d

@@ -3,6 +3,7 @@
 #![tactic(auto)]
 
 ghost use Rattle.std.specs.Prelude.{◌≡◌, true, false, [], ◌≤◌, length};
+ghost use Rattle.answers.specs.Refusals.{number_of, written_of};
 ghost use Rattle.answers.specs.Answers.{first};
 ghost use Rattle.aead.specs.Aead.{plain};
 ghost use Rattle.secure_objects.specs.Objects.{name_most};
@@ -10,50 +11,41 @@ ghost use Rattle.track_record.specs.Layout.{record_size, decode};
 ghost use Rattle.track_record.specs.Record.{track_id, is_empty, receives};
 ghost use Rattle.open_object.specs.Open.{open_causes, open_at, opening};
 
-use answers::{
-    Answer, DONE, FRAME_SHORT, INPUT_TOO_LONG, KID_MISSING, OBJECT_TOO_LARGE, ROLE_REFUSED,
-    ROOM_SHORT, STORE_INVALID, TAG_DIFFERS, refused, too_long,
-};
+use answers::{Refusal, too_long};
 use secure_objects::{GroupId, KeyId, OBJECT_CEILING, ObjectId};
-use track_record::{Held, Kind, row};
+use track_record::{Kind, row};
 
 // Whether a record of that kind opens.
 fn opens(kind: Kind) -> bool
     ensures { result ≡ receives kind }
 {
-    match kind {
-        Kind::Sender => false,
-        Kind::Receiver => true,
-        Kind::Retired => false,
-    }
+    matches!(kind, Kind::Receiver)
 }
 
-// The number of the first cause, before the tag is looked at, for which a held record refuses to open; 0 where there is none.
-fn judge(row: &[u8], object: ObjectId, properties: usize, sealed: usize, room: usize) -> u32
+// Why a held record refuses to open, by the first cause that applies before the tag is looked at.
+fn judge(row: &[u8], object: ObjectId, properties: usize, sealed: usize, room: usize) -> Result<(), Refusal>
     requires { (length row.now ≡ record_size) × (is_empty (decode row.now) ≡ false) }
-    ensures { result ≡ first (open_causes true (decode row.now) object.0 properties sealed room (plain [])) }
+    ensures { number_of result ≡ first (open_causes true (decode row.now) object.0 properties sealed room (plain [])) }
 {
-    let Held::Track(kind, suite) = row::held_in(row) else {
-        return KID_MISSING;
-    };
+    let (kind, suite) = row::held_in(row).ok_or(Refusal::KidMissing)?;
     if !opens(kind) {
-        return ROLE_REFUSED;
+        return Err(Refusal::RoleRefused);
     }
     if OBJECT_CEILING <= object.0 {
-        return OBJECT_TOO_LARGE;
+        return Err(Refusal::ObjectTooLarge);
     }
     let nt = suite.tag_size();
     if sealed < nt {
-        return FRAME_SHORT;
+        return Err(Refusal::FrameShort);
     }
     let n = sealed - nt;
     if too_long(n, properties) {
-        return INPUT_TOO_LONG;
+        return Err(Refusal::InputTooLong);
     }
     if room < n {
-        return ROOM_SHORT;
+        return Err(Refusal::RoomShort);
     }
-    DONE
+    Ok(())
 }
 
 // Opens an object with the record that holds its track.
@@ -66,18 +58,13 @@ fn open_with(
     properties: &[u8],
     sealed: &[u8],
     room: &mut [u8],
-) -> Answer
+) -> Result<usize, Refusal>
     requires { (length row.now ≡ record_size) × (is_empty (decode row.now) ≡ false) × (length name.now ≤ name_most) }
-    ensures number_value { (result.number ≡ (open_at true (decode row.now) [] (track_id name.now id.0) group.0 object.0 properties.now sealed.now room.old).number) × (result.length ≡ (open_at true (decode row.now) [] (track_id name.now id.0) group.0 object.0 properties.now sealed.now room.old).written) }
+    ensures number_value { (number_of result ≡ (open_at true (decode row.now) [] (track_id name.now id.0) group.0 object.0 properties.now sealed.now room.old).number) × (written_of result ≡ (open_at true (decode row.now) [] (track_id name.now id.0) group.0 object.0 properties.now sealed.now room.old).written) }
     ensures room_after { room.new ≡ (open_at true (decode row.now) [] (track_id name.now id.0) group.0 object.0 properties.now sealed.now room.old).room }
 {
-    let number = judge(row, object, properties.len(), sealed.len(), room.len());
-    if number != DONE {
-        return refused(number);
-    }
-    let Held::Track(kind, suite) = row::held_in(row) else {
-        return refused(KID_MISSING);
-    };
+    judge(row, object, properties.len(), sealed.len(), room.len())?;
+    let (_, suite) = row::held_in(row).ok_or(Refusal::KidMissing)?;
     if !secure_objects::object::unsecure(
         suite,
         row::key_of(row, suite),
@@ -90,12 +77,9 @@ fn open_with(
         sealed,
         room,
     ) {
-        return refused(TAG_DIFFERS);
+        return Err(Refusal::TagDiffers);
     }
-    Answer {
-        number: DONE,
-        length: sealed.len() - suite.tag_size(),
-    }
+    Ok(sealed.len() - suite.tag_size())
 }
 
 // Opens an object, given the name, the Key ID, the pair and the properties of its sealing: the plaintext stands at the start of
@@ -109,16 +93,14 @@ pub fn open(
     properties: &[u8],
     sealed: &[u8],
     room: &mut [u8],
-) -> Answer
-    ensures number_value { (result.number ≡ (opening store.now (track_id name.now id.0) group.0 object.0 properties.now sealed.now room.old).number) × (result.length ≡ (opening store.now (track_id name.now id.0) group.0 object.0 properties.now sealed.now room.old).written) }
+) -> Result<usize, Refusal>
+    ensures number_value { (number_of result ≡ (opening store.now (track_id name.now id.0) group.0 object.0 properties.now sealed.now room.old).number) × (written_of result ≡ (opening store.now (track_id name.now id.0) group.0 object.0 properties.now sealed.now room.old).written) }
     ensures room_after { room.new ≡ (opening store.now (track_id name.now id.0) group.0 object.0 properties.now sealed.now room.old).room }
 {
     if !tracks::is_sound(store) {
-        return refused(STORE_INVALID);
+        return Err(Refusal::StoreInvalid);
     }
-    let Some(i) = tracks::find(store, name, id) else {
-        return refused(KID_MISSING);
-    };
+    let i = tracks::find(store, name, id).ok_or(Refusal::KidMissing)?;
     open_with(
         tracks::row_at(store, i),
         name,

@@ -20,6 +20,7 @@ ghost use Rattle.piece_line.specs.Line.{after, cipher_piece, tag_in};
 
 use aes_keys::Context;
 use gcm::TAG;
+use sha256::Sha256;
 use state::{HASH, KEY, NONCE, STATE_SIZE, TAKEN, aad_of, key_end, taken_of};
 use suites::Suite;
 use suites::sizes::Mode;
@@ -151,9 +152,9 @@ fn hmac_tag(suite: Suite, state: &[u8]) -> [u8; TAG]
 {
     let n = BEFORE + aad_of(state) + taken_of(state);
     let inner = piece_hash::finish(&state[HASH..STATE_SIZE], n);
-    let block = hmac::block_key(&state[AUTH..AUTH_END]);
-    let outer = hmac::masked_block(&block, hmac::OPAD);
-    let whole = running_hash::sha256_of(&outer, &inner);
+    let block = hmac::block_key::<Sha256, _, _>(&state[AUTH..AUTH_END]);
+    let outer = hmac::masked_block::<64>(&block, hmac::OPAD);
+    let whole = running_hash::digest::<Sha256, _, _>(&outer, &inner);
     let mut t = [0u8; TAG];
     octets::copy(&mut t, &whole[0..TAG]);
     t

@@ -13,10 +13,10 @@ ghost use Rattle.piece_stream.specs.Inner.Fronts.{batch_at, in_front};
 use aes::BLOCK;
 use aes_batch::{BLOCKS, BYTES, Batch};
 use aes_keys::Context;
+use gcm_batch::counter;
 use gcm_batch::counter::{next, xor_part};
 
-// Writes input XOR the key stream that starts at the block count, from its byte number at on. A batch starts at a multiple of
-// sixteen blocks; of the first one the bytes before the input's are left out.
+// Writes input XOR the key stream that starts at the block count, from its byte number at on.
 pub fn apply_from(ctx: &Context, nonce: &[u8], count: u32, at: usize, input: &[u8], out: &mut [u8])
     requires ready { Ready ctx.now }
     requires nonce_len { length nonce.now ≡ nonce_size }
@@ -24,16 +24,7 @@ pub fn apply_from(ctx: &Context, nonce: &[u8], count: u32, at: usize, input: &[u
     requires input_bound { 16 * count + (at + length input.now) < counts }
     ensures { out.new ≡ ctr_from (key_of ctx.now) nonce.now count at input.now }
 {
-    let start = BLOCK * count as usize + at;
-    let mut i = 0;
-    while i < input.len() {
-        let p = start + i;
-        let s = aes_batch::stream(ctx, nonce, (p / BYTES * BLOCKS) as u32);
-        let from = p % BYTES;
-        let end = next(i, BYTES - from, input.len());
-        xor_part(&s[from..BYTES], &input[i..end], &mut out[i..end]);
-        i = end;
-    }
+    counter::apply_from(ctx, nonce, BLOCK * count as usize + at, input, out);
 }
 
 // The batch that byte number at of that key stream lies in, with the encrypted block of zeros in the place of its first block.

@@ -39,8 +39,8 @@ fn begin_hmac(
     requires header_len_bound { (length header.now ≤ max_header) × (length metadata.now ≤ max_metadata) × (announced ≤ max_plaintext) }
     ensures { b.new ≡ hash_after CtrHmac nt announced key.now nonce.now (header.now ++ metadata.now) [] }
 {
-    let block = hmac::block_key(&key[NKA..]);
-    let inner = hmac::masked_block(&block, hmac::IPAD);
+    let block = hmac::block_key::<Sha256, _, _>(&key[NKA..]);
+    let inner = hmac::masked_block::<64>(&block, hmac::IPAD);
     let aad = header.len() + metadata.len();
     let l = hmac_tag::lengths(aad as u64, announced as u64, nt as u64);
     let front = Sha256::new().feed(&inner).feed(&l).feed(nonce);

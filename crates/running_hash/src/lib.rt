@@ -1,74 +1,46 @@
 // SPDX-License-Identifier: MIT
-// Hash states behind `&mut`: thin functions over those of sha256 and sha512, and above them the digest of two pieces, for callers without
-// a state of their own.
+// Hash states behind `&mut`, and above them the digest of two pieces, for callers without a state of their own.
 #![tactic(auto)]
 
 ghost use Rattle.std.specs.Prelude.{◌≡◌, ◌+◌, ◌≤◌, length};
-ghost use Rattle.sha2_common.specs.Sizes.{sha256, sha512};
 ghost use Rattle.sha2_common.specs.Limits.{maximum};
-ghost use Rattle.running_hash.specs.Inner.Lent.{FedWith256, Finished256, FedWith512, Finished512, digest_of};
+ghost use Rattle.running_hash.specs.Inner.Lent.{FedWith, Finished, digest_of};
 
-use sha256::Sha256;
-use sha512::Sha512;
+use sha2_common::Hash;
 
 // The state has been fed s after what was fed before.
-pub fn feed_sha256(state: &mut Sha256, s: &[u8])
-    requires { state.old.len + length s.now ≤ maximum }
-    ensures { FedWith256 state.old s.now state.new }
+pub fn feed<H: Hash<BLOCK, DIGEST>, const BLOCK: usize, const DIGEST: usize>(
+    state: &mut H,
+    s: &[u8],
+)
+    requires { (H.state state.old).len + length s.now ≤ maximum }
+    ensures { FedWith H H.state H.params state.old s.now state.new }
 {
-    let before = *state;
-    let after = before.feed(s);
-    *state = after;
+    *state = state.feed(s);
 }
 
 // The digest of what the state has been fed. The state is a new one afterwards.
-pub fn finish_sha256(state: &mut Sha256) -> [u8; 32]
-    requires { state.old.len ≤ maximum }
-    ensures { Finished256 state.old result state.new }
+pub fn finish<H: Hash<BLOCK, DIGEST>, const BLOCK: usize, const DIGEST: usize>(
+    state: &mut H,
+) -> [u8; DIGEST]
+    requires { (H.state state.old).len ≤ maximum }
+    ensures { Finished H H.state H.params DIGEST state.old result state.new }
 {
-    let fed = *state;
-    let digest = fed.finish();
-    *state = Sha256::new();
+    let digest = state.finish();
+    *state = H::new();
     digest
 }
 
 // The digest of a message in two pieces.
-pub fn sha256_of(first: &[u8], second: &[u8]) -> [u8; 32]
+pub fn digest<H: Hash<BLOCK, DIGEST>, const BLOCK: usize, const DIGEST: usize>(
+    first: &[u8],
+    second: &[u8],
+) -> [u8; DIGEST]
     requires { length first.now + length second.now ≤ maximum }
-    ensures { (result ≡ digest_of sha256 first.now second.now) × (length result ≡ 32) }
+    ensures { (result ≡ digest_of H.params first.now second.now) × (length result ≡ DIGEST) }
 {
-    let mut state = Sha256::new();
-    feed_sha256(&mut state, first);
-    feed_sha256(&mut state, second);
-    finish_sha256(&mut state)
-}
-
-// The same with SHA-512.
-pub fn feed_sha512(state: &mut Sha512, s: &[u8])
-    requires { state.old.len + length s.now ≤ maximum }
-    ensures { FedWith512 state.old s.now state.new }
-{
-    let before = *state;
-    let after = before.feed(s);
-    *state = after;
-}
-
-pub fn finish_sha512(state: &mut Sha512) -> [u8; 64]
-    requires { state.old.len ≤ maximum }
-    ensures { Finished512 state.old result state.new }
-{
-    let fed = *state;
-    let digest = fed.finish();
-    *state = Sha512::new();
-    digest
-}
-
-pub fn sha512_of(first: &[u8], second: &[u8]) -> [u8; 64]
-    requires { length first.now + length second.now ≤ maximum }
-    ensures { (result ≡ digest_of sha512 first.now second.now) × (length result ≡ 64) }
-{
-    let mut state = Sha512::new();
-    feed_sha512(&mut state, first);
-    feed_sha512(&mut state, second);
-    finish_sha512(&mut state)
+    let mut state = H::new();
+    feed(&mut state, first);
+    feed(&mut state, second);
+    finish(&mut state)
 }

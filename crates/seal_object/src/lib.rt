@@ -3,6 +3,7 @@
 #![tactic(auto)]
 
 ghost use Rattle.std.specs.Prelude.{◌≡◌, true, false, ◌++◌, ◌≤◌, ◌<◌, length, drop};
+ghost use Rattle.answers.specs.Refusals.{number_of, written_of};
 ghost use Rattle.answers.specs.Answers.{done, first};
 ghost use Rattle.secure_objects.specs.Objects.{name_most};
 ghost use Rattle.track_record.specs.Layout.{record_size, decode};
@@ -10,26 +11,19 @@ ghost use Rattle.track_record.specs.Record.{track_id, is_empty, sends};
 ghost use Rattle.track_record.specs.Inner.Rows.{Row};
 ghost use Rattle.seal_object.specs.Seal.{seal_causes, object_under, seal};
 
-use answers::{
-    Answer, DONE, INPUT_TOO_LONG, KID_MISSING, OBJECT_TOO_LARGE, PAIR_NOT_ABOVE, ROLE_REFUSED,
-    ROOM_SHORT, STORE_INVALID, refused, too_long,
-};
+use answers::{Refusal, too_long};
 use secure_objects::{GroupId, KeyId, OBJECT_CEILING, ObjectId};
 use suites::Suite;
-use track_record::{Held, Kind, row};
+use track_record::{Kind, row};
 
 // Whether a record of that kind seals.
 fn seals(kind: Kind) -> bool
     ensures { result ≡ sends kind }
 {
-    match kind {
-        Kind::Sender => true,
-        Kind::Receiver => false,
-        Kind::Retired => false,
-    }
+    matches!(kind, Kind::Sender)
 }
 
-// The number of the first cause for which a held record refuses to seal; 0 where there is none.
+// Why a held record refuses to seal, by the first cause that applies.
 fn judge(
     row: &[u8],
     group: GroupId,
@@ -37,29 +31,27 @@ fn judge(
     properties: usize,
     plaintext: usize,
     room: usize,
-) -> u32
+) -> Result<(), Refusal>
     requires { (length row.now ≡ record_size) × (is_empty (decode row.now) ≡ false) }
-    ensures { result ≡ first (seal_causes true (decode row.now) group.0 object.0 properties plaintext room) }
+    ensures { number_of result ≡ first (seal_causes true (decode row.now) group.0 object.0 properties plaintext room) }
 {
-    let Held::Track(kind, suite) = row::held_in(row) else {
-        return KID_MISSING;
-    };
+    let (kind, suite) = row::held_in(row).ok_or(Refusal::KidMissing)?;
     if !seals(kind) {
-        return ROLE_REFUSED;
+        return Err(Refusal::RoleRefused);
     }
     if OBJECT_CEILING <= object.0 {
-        return OBJECT_TOO_LARGE;
+        return Err(Refusal::ObjectTooLarge);
     }
     if row::is_below(row, group, object) {
-        return PAIR_NOT_ABOVE;
+        return Err(Refusal::PairNotAbove);
     }
     if too_long(plaintext, properties) {
-        return INPUT_TOO_LONG;
+        return Err(Refusal::InputTooLong);
     }
     if room < plaintext + suite.tag_size() {
-        return ROOM_SHORT;
+        return Err(Refusal::RoomShort);
     }
-    DONE
+    Ok(())
 }
 
 // Writes the object of a pair to the front of the room, where nothing is against it.
@@ -78,7 +70,7 @@ fn write_object(
     ensures value { result ≡ length (object_under (decode row.now) (track_id name.now id.0) group.0 object.0 properties.now plaintext.now) }
     ensures room_after { room.new ≡ object_under (decode row.now) (track_id name.now id.0) group.0 object.0 properties.now plaintext.now ++ drop result room.old }
 {
-    let Held::Track(kind, suite) = row::held_in(row) else {
+    let Some((_, suite)) = row::held_in(row) else {
         return 0;
     };
     let end = plaintext.len() + suite.tag_size();
@@ -108,28 +100,23 @@ pub fn seal(
     properties: &[u8],
     plaintext: &[u8],
     room: &mut [u8],
-) -> Answer
-    ensures number_value { (result.number ≡ (seal store.old (track_id name.now id.0) group.0 object.0 properties.now plaintext.now room.old).number) × (result.length ≡ (seal store.old (track_id name.now id.0) group.0 object.0 properties.now plaintext.now room.old).written) }
+) -> Result<usize, Refusal>
+    ensures number_value { (number_of result ≡ (seal store.old (track_id name.now id.0) group.0 object.0 properties.now plaintext.now room.old).number) × (written_of result ≡ (seal store.old (track_id name.now id.0) group.0 object.0 properties.now plaintext.now room.old).written) }
     ensures store_after { store.new ≡ (seal store.old (track_id name.now id.0) group.0 object.0 properties.now plaintext.now room.old).store }
     ensures room_after { room.new ≡ (seal store.old (track_id name.now id.0) group.0 object.0 properties.now plaintext.now room.old).room }
 {
     if !tracks::is_sound(store) {
-        return refused(STORE_INVALID);
+        return Err(Refusal::StoreInvalid);
     }
-    let Some(i) = tracks::find(store, name, id) else {
-        return refused(KID_MISSING);
-    };
-    let number = judge(
+    let i = tracks::find(store, name, id).ok_or(Refusal::KidMissing)?;
+    judge(
         tracks::row_at(store, i),
         group,
         object,
         properties.len(),
         plaintext.len(),
         room.len(),
-    );
-    if number != DONE {
-        return refused(number);
-    }
+    )?;
     let length = write_object(
         tracks::row_at(store, i),
         name,
@@ -141,8 +128,5 @@ pub fn seal(
         room,
     );
     tracks::advance_at(store, i, group, object);
-    Answer {
-        number: DONE,
-        length,
-    }
+    Ok(length)
 }

@@ -1,8 +1,16 @@
 -- SPDX-License-Identifier: MIT
 -- What the functions exported for tests take, and what they answer. Assumes nothing.
-use Rattle.std.specs.Prelude.{Option, Some, None, ◌≡◌, Bool, true, false, List, ◌⊎◌, ℕ, ◌+◌, ◌-◌, ◌%◌, ◌≤◌, length}
+use Rattle.std.specs.Prelude.{Option, Some, None, Result, Ok, Err, ◌≡◌, Bool, true, false, List, ◌⊎◌, ℕ, ◌+◌, ◌-◌, ◌%◌, ◌≤◌, length}
 use Rattle.suites.specs.declared.sizes.Suite.{Suite}
+use Rattle.sframe_test.specs.declared.Refused.{Refused}
+use Rattle.sframe_test.specs.declared.Refused.TheVariants.{Input, Tag}
 use Rattle.suites.specs.Suites.{Nk, Nn, Nt}
+
+-- The number by which a C caller knows an answer: 0 for work done, 1 for an input not taken, 13 for a tag that differs.
+abbrev pub number_of : {A : Type 0} → Result A Refused → ℕ
+number_of (Ok done) = 0
+number_of (Err Input) = 1
+number_of (Err Tag) = 13
 
 -- An input that is taken is answered by its work; any other is answered 1, and nothing is changed.
 abbrev pub Judged : (answer : ℕ) (Taken Done Kept : Type 0) (r : ℕ) → Type 0

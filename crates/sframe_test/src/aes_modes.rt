@@ -1,6 +1,6 @@
 // SPDX-License-Identifier: MIT
-// AES, counter mode, GHASH and GCM. Each function judges its input: it answers 0 and writes its result to the front of
-// out, or it answers 1 and changes nothing.
+// AES, counter mode, GHASH and GCM. Each function judges its input: it writes its result to the front of out, or it
+// refuses the input and changes nothing.
 ghost use Rattle.std.specs.Prelude.{◌≡◌, ◌++◌, ◌+◌, ◌≤◌, length, drop};
 ghost use Rattle.octets.specs.Octets.{number, bytes};
 ghost use Rattle.aes.specs.Aes.{KeySize, block_size, encrypt};
@@ -10,9 +10,10 @@ ghost use Rattle.gcm.specs.Counter.{nonce_size, ctr};
 ghost use Rattle.ghash.specs.Ghash.{absorb};
 ghost use Rattle.gcm.specs.Gcm.{tag_size, gcm_tag, gcm_encrypt};
 ghost use Rattle.gcm.specs.Inner.Limits.{max_bytes};
-ghost use Rattle.sframe_test.specs.Judged.{Judged, AesTakes, AesRepeatTakes, CtrTakes, GhashTakes, GcmTakes};
+ghost use Rattle.sframe_test.specs.Judged.{Judged, AesTakes, AesRepeatTakes, CtrTakes, GhashTakes, GcmTakes, number_of};
 ghost use Rattle.sframe_test.specs.Repeated.{repeated};
 
+use crate::Refused;
 use crate::judge::{MAX_BYTES, NN, key_taken, parts_taken};
 
 // The last block count that the longest input may start at.
@@ -21,7 +22,7 @@ const LAST_COUNT: u32 = 0xffff_0000;
 // The context of a key by which batches are encrypted.
 fn context(key: &[u8]) -> aes_keys::Context
     requires { KeySize (length key.now) }
-    ensures { keys.Context key.now result }
+    ensures { keys.Context key.now (number_of result) }
 {
     let mut ctx = aes_keys::blank();
     aes_keys::expand(&mut ctx, key);
@@ -29,21 +30,21 @@ fn context(key: &[u8]) -> aes_keys::Context
 }
 
 // AES encryption of a block of 16 bytes, under a key of 16 or 32.
-pub fn sframe_test_aes(key: &[u8], block: &[u8], out: &mut [u8]) -> u32
-    ensures { Judged 0 (AesTakes key.now block.now out.old) (out.new ≡ encrypt key.now block.now ++ drop 16 out.old) (out.new ≡ out.old) result }
+pub fn sframe_test_aes(key: &[u8], block: &[u8], out: &mut [u8]) -> Result<(), Refused>
+    ensures { Judged 0 (AesTakes key.now block.now out.old) (out.new ≡ encrypt key.now block.now ++ drop 16 out.old) (out.new ≡ out.old) (number_of result) }
 {
     if !key_taken(key) {
-        return 1;
+        return Err(Refused::Input);
     }
     if block.len() != 16 {
-        return 1;
+        return Err(Refused::Input);
     }
     if out.len() < 16 {
-        return 1;
+        return Err(Refused::Input);
     }
     let ctx = aes_block::expand(key);
     aes_block::encrypt_block(&ctx, block, out);
-    0
+    Ok(())
 }
 
 // Encrypts the block in out, 16 bytes, n times over.
@@ -52,76 +53,74 @@ fn repeat(ctx: &aes_block::Context, n: u32, out: &mut [u8])
     requires out_len { length out.old ≡ block_size }
     ensures { out.new ≡ repeated (encrypt (key_of ctx.now)) n out.old }
 {
-    let mut i = 0;
-    while i < n {
+    for _ in 0..n {
         let s = aes_block::load(out);
         let t = aes_block::encrypt(ctx, s);
         aes_block::store(out, t);
-        i += 1;
     }
 }
 
 // AES encryption of a block n times over, on one context: for n large, the time of the block alone.
-pub fn sframe_test_aes_repeat(key: &[u8], block: &[u8], n: u32, out: &mut [u8]) -> u32
-    ensures { Judged 0 (AesRepeatTakes key.now block.now out.old) (out.new ≡ repeated (encrypt key.now) n block.now) (out.new ≡ out.old) result }
+pub fn sframe_test_aes_repeat(key: &[u8], block: &[u8], n: u32, out: &mut [u8]) -> Result<(), Refused>
+    ensures { Judged 0 (AesRepeatTakes key.now block.now out.old) (out.new ≡ repeated (encrypt key.now) n block.now) (out.new ≡ out.old) (number_of result) }
 {
     if !key_taken(key) {
-        return 1;
+        return Err(Refused::Input);
     }
     if block.len() != 16 {
-        return 1;
+        return Err(Refused::Input);
     }
     if out.len() != 16 {
-        return 1;
+        return Err(Refused::Input);
     }
     let ctx = aes_block::expand(key);
     octets::copy(out, block);
     repeat(&ctx, n, out);
-    0
+    Ok(())
 }
 
 // input XOR the key stream of a nonce of 12 bytes that starts at the block count.
-pub fn sframe_test_ctr(key: &[u8], nonce: &[u8], count: u32, input: &[u8], out: &mut [u8]) -> u32
-    ensures { Judged 0 (CtrTakes key.now nonce.now count input.now out.old) (out.new ≡ ctr key.now nonce.now count input.now ++ drop (length input.now) out.old) (out.new ≡ out.old) result }
+pub fn sframe_test_ctr(key: &[u8], nonce: &[u8], count: u32, input: &[u8], out: &mut [u8]) -> Result<(), Refused>
+    ensures { Judged 0 (CtrTakes key.now nonce.now count input.now out.old) (out.new ≡ ctr key.now nonce.now count input.now ++ drop (length input.now) out.old) (out.new ≡ out.old) (number_of result) }
 {
     if !key_taken(key) {
-        return 1;
+        return Err(Refused::Input);
     }
     if nonce.len() != NN {
-        return 1;
+        return Err(Refused::Input);
     }
     if MAX_BYTES < input.len() {
-        return 1;
+        return Err(Refused::Input);
     }
     if LAST_COUNT < count {
-        return 1;
+        return Err(Refused::Input);
     }
     let n = input.len();
     if out.len() < n {
-        return 1;
+        return Err(Refused::Input);
     }
     let ctx = context(key);
     gcm_batch::counter::apply(&ctx, nonce, count, input, &mut out[..n]);
-    0
+    Ok(())
 }
 
 // GHASH under a hash key of 16 bytes, over the data filled up with zeros to whole blocks.
-pub fn sframe_test_ghash(key: &[u8], input: &[u8], out: &mut [u8]) -> u32
-    ensures { Judged 0 (GhashTakes key.now input.now out.old) (out.new ≡ bytes 16 (absorb (number 16 key.now) 0 input.now) ++ drop 16 out.old) (out.new ≡ out.old) result }
+pub fn sframe_test_ghash(key: &[u8], input: &[u8], out: &mut [u8]) -> Result<(), Refused>
+    ensures { Judged 0 (GhashTakes key.now input.now out.old) (out.new ≡ bytes 16 (absorb (number 16 key.now) 0 input.now) ++ drop 16 out.old) (out.new ≡ out.old) (number_of result) }
 {
     if key.len() != 16 {
-        return 1;
+        return Err(Refused::Input);
     }
     if MAX_BYTES < input.len() {
-        return 1;
+        return Err(Refused::Input);
     }
     if out.len() < 16 {
-        return 1;
+        return Err(Refused::Input);
     }
     let t = ghash::expand(ghash::load(key));
     let y = ghash::absorb(&t, ghash::Block { hi: 0, lo: 0 }, input, &input[..0]);
     ghash::store(out, y);
-    0
+    Ok(())
 }
 
 // GCM encryption and the tag of GCM, each with a front and a hash key of its own.
@@ -169,22 +168,22 @@ pub fn sframe_test_gcm_seal(
     metadata: &[u8],
     plaintext: &[u8],
     out: &mut [u8],
-) -> u32
-    ensures { Judged 0 (GcmTakes (length plaintext.now + 16) key.now nonce.now header.now metadata.now plaintext.now out.old) (out.new ≡ gcm_encrypt key.now nonce.now (header.now ++ metadata.now) plaintext.now ++ drop (length plaintext.now + 16) out.old) (out.new ≡ out.old) result }
+) -> Result<(), Refused>
+    ensures { Judged 0 (GcmTakes (length plaintext.now + 16) key.now nonce.now header.now metadata.now plaintext.now out.old) (out.new ≡ gcm_encrypt key.now nonce.now (header.now ++ metadata.now) plaintext.now ++ drop (length plaintext.now + 16) out.old) (out.new ≡ out.old) (number_of result) }
 {
     if !key_taken(key) {
-        return 1;
+        return Err(Refused::Input);
     }
     if !parts_taken(nonce, header, metadata, plaintext) {
-        return 1;
+        return Err(Refused::Input);
     }
     let n = plaintext.len() + 16;
     if out.len() < n {
-        return 1;
+        return Err(Refused::Input);
     }
     let ctx = context(key);
     gcm_seal(&ctx, nonce, header, metadata, plaintext, &mut out[..n]);
-    0
+    Ok(())
 }
 
 // The tag of GCM over a ciphertext.
@@ -195,19 +194,19 @@ pub fn sframe_test_gcm_tag(
     metadata: &[u8],
     ciphertext: &[u8],
     out: &mut [u8],
-) -> u32
-    ensures { Judged 0 (GcmTakes 16 key.now nonce.now header.now metadata.now ciphertext.now out.old) (out.new ≡ gcm_tag key.now nonce.now (header.now ++ metadata.now) ciphertext.now ++ drop 16 out.old) (out.new ≡ out.old) result }
+) -> Result<(), Refused>
+    ensures { Judged 0 (GcmTakes 16 key.now nonce.now header.now metadata.now ciphertext.now out.old) (out.new ≡ gcm_tag key.now nonce.now (header.now ++ metadata.now) ciphertext.now ++ drop 16 out.old) (out.new ≡ out.old) (number_of result) }
 {
     if !key_taken(key) {
-        return 1;
+        return Err(Refused::Input);
     }
     if !parts_taken(nonce, header, metadata, ciphertext) {
-        return 1;
+        return Err(Refused::Input);
     }
     if out.len() < 16 {
-        return 1;
+        return Err(Refused::Input);
     }
     let ctx = context(key);
     gcm_tag(&ctx, nonce, header, metadata, ciphertext, &mut out[..16]);
-    0
+    Ok(())
 }

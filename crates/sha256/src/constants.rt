@@ -66,3 +66,15 @@ pub const K: [u32; 64] = [
     0xbef9_a3f7,
     0xc671_78f2,
 ];
+
+// The initial hash value: section 5.3.3.
+pub const INITIAL: [u32; 8] = [
+    0x6a09_e667,
+    0xbb67_ae85,
+    0x3c6e_f372,
+    0xa54f_f53a,
+    0x510e_527f,
+    0x9b05_688c,
+    0x1f83_d9ab,
+    0x5be0_cd19,
+];

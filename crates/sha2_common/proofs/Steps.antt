@@ -4,17 +4,18 @@ use mathlib.Core.Path.{◌≡◌, refl, sym, ◌∙◌, ap}
 use mathlib.Core.List.{List, [], ◌∷◌, ◌++◌, append_assoc, append-nil}
 use Prim.Native.Nat.{ℕ, zero, suc, ◌+◌, ◌*◌, ◌/◌, ◌%◌, ◌-◌, ◌^◌, ◌<◌, ◌≤◌}
 use native.Mathlib.Numerals.{add-one}
-use native.Mathlib.Nat.{mul-add, mul-one, mul_comm, one-mul, mod-le, mod-lt, add-mod_right, div-add-mod'}
+use native.Mathlib.Nat.{mul-zero, zero-mul, mul-le-mul_right, div-mul-le_self, lt-div-mul-add, mul-add, mul-one, mul_comm, suc-mul, mod-le, mod-lt, mod-eq_of_lt, add-mod_right, div-add-mod'}
 use native.Mathlib.Omega.{arith}
-use lib.ListN.{length, get_or, take, drop, set, replicate, length-append, length-take, length-replicate, take-append-drop, replicate-append-replicate}
+use lib.ListN.{length, get_or, take, drop, set, replicate, length-append, length-take, length-drop, length-replicate, take-append-drop, replicate-append-replicate}
 use lib.Seq.{take-suc, take-suc-set, take_all, take_at, drop_at, drop-drop, drop-append-add, set_at, get_or-take, get_or-set_other, length-take-le}
 use borrow.Rule.Slice.PartMut.{put_mid}
+use Rattle.std.specs.Simd.{first_chunks}
 use Rattle.octets.specs.Octets.{number, bytes, pasted}
-use Rattle.octets.proofs.Laws.{part-rest, bytes-length, lent-pasted}
+use Rattle.octets.proofs.Laws.{part-rest, bytes-length, lent-pasted, pasted_length}
 use Rattle.sha2_common.specs.Sha2.{Params, add, Ch, Maj, Σ0, Σ1, σ0, σ1, T1, T2, words, next, schedule, round, rounds, adds, compress, run, joined, zeros, padding}
 use Rattle.sha2_common.specs.Inner.Rounds.{Halfway}
-use Rattle.sha2_common.specs.Running.{State, left, room_of, waits, fed, finished}
-use Rattle.sha2_common.proofs.Laws.{run-append, room-full, drop-zeros, padding-eight}
+use Rattle.sha2_common.specs.Running.{State, left, room_of, waits, fresh, fed, finished}
+use Rattle.sha2_common.proofs.Laws.{run-block, run-next, room-full, drop-zeros, padding-eight}
 
 -- what stands before the end of what was written at i
 pub taken : (l x : List ℕ) (i n : ℕ) → i + length x ≡ n → n ≤ length l → take n (pasted l i x) ≡ take i l ++ x
@@ -41,6 +42,35 @@ pub eight : {a b c d e f g h a' b' c' d' e' f' g' h' : ℕ} → a ≡ a' → b �
     → a ∷ b ∷ c ∷ d ∷ e ∷ f ∷ g ∷ h ∷ [] ≡ a' ∷ b' ∷ c' ∷ d' ∷ e' ∷ f' ∷ g' ∷ h' ∷ []
 eight i j k l m n o q = rw (i, j, k, l, m, n, o, q)
 
+-- the padding of n bytes, where they leave h behind the whole blocks of b bytes
+pub padded-once : (p : Params) (n b h : ℕ) → p.block ≡ b → h ≡ n % b → h + p.field < b → b ≡ h + (p.field + 1) + zeros p n
+unfolding zeros
+padded-once p n b h e f k =
+    let m : 2 * b - (p.field + 1) - h ≡ b - (p.field + 1) - h + b = omega arith in
+    let q : (b - (p.field + 1) - h) % b ≡ b - (p.field + 1) - h = mod-eq_of_lt (omega arith) in
+    rw (e, ← f, m, add-mod_right (b - (p.field + 1) - h) b, q) (omega arith)
+
+pub padded-twice : (p : Params) (n b h : ℕ) → p.block ≡ b → h ≡ n % b → h < b → p.field < b → b ≤ h + p.field → 2 * b ≡ h + (p.field + 1) + zeros p n
+unfolding zeros
+padded-twice p n b h e f k l j =
+    let q : (2 * b - (p.field + 1) - h) % b ≡ 2 * b - (p.field + 1) - h = mod-eq_of_lt (omega arith) in
+    rw (e, ← f, q) (omega arith)
+
+-- the chunks that a slice is cut into
+pub chunk-at : (n k i : ℕ) (s d : List ℕ) → i < k → get_or (first_chunks n k s) i d ≡ take n (drop (i * n) s)
+chunk-at n zero i s d h = absurd (omega arith)
+chunk-at n (suc k) zero s d h = rw zero-mul refl
+chunk-at n (suc k) (suc i) s d h =
+    let m : suc i * n ≡ n + i * n = rw suc-mul (omega arith) in
+    rw m (chunk-at n k i (drop n s) d (omega arith) ∙ ap (take n) (drop-drop (i * n) n s))
+
+pub chunk-within : (n : ℕ) (s : List ℕ) (i : ℕ) → i < length s / n → (i + 1) * n ≤ length s
+chunk-within n s i h = omega (arith, mul-le-mul_right {m = i + 1} {n = length s / n} n (omega arith), div-mul-le_self (length s) n)
+
+pub chunks-end : (n : ℕ) → 0 < n → (s : List ℕ) (i : ℕ) → length s / n ≤ i → length (drop (i * n) s) < n
+chunks-end n pos s i h =
+    simp length-drop (omega (arith, lt-div-mul-add {a = length s} {b = n} pos, mul-le-mul_right {m = length s / n} {n = i} n h))
+
 module _ (p : Params) where
   -- one round, sum by sum
   pub round-done : (v : List ℕ) (k w s1 x1 x2 x3 x4 t1 s0 x5 t2 e a : ℕ) → s1 ≡ Σ1 p (get_or v 4 0) → x1 ≡ add p (get_or v 7 0) s1 → x2 ≡ Ch p (get_or v 4 0) (get_or v 5 0) (get_or v 6 0)
@@ -59,10 +89,10 @@ module _ (p : Params) where
   pub rounds-at : (w h v : List ℕ) (t a b n : ℕ) → a + b ≡ n → v ≡ rounds p w (t + a + b) h → v ≡ rounds p w (t + n) h
   rounds-at w h v t a b n e f = let q : t + a + b ≡ t + n = omega arith in rw q at f
 
-  pub words_step : (w b : List ℕ) (i v : ℕ) → i < length w → take i w ≡ words p i b → v ≡ number p.size (take (length b - p.size * i) (drop (p.size * i) b))
+  pub words_step : (w b : List ℕ) (i v : ℕ) → i < length w → take i w ≡ words p i b → v ≡ number p.size (drop (p.size * i) b)
       → take (i + 1) (set w i v) ≡ words p (i + 1) b
   unfolding words
-  words_step w b i v h e f = rw (add-one, take-suc-set w i v h, e, f, part-rest (p.size * i) b)
+  words_step w b i v h e f = rw (add-one, take-suc-set w i v h, e, f)
 
   schedule-word : (w b : List ℕ) (i v : ℕ) → take (i + 16) w ≡ schedule p i b
       → v ≡ add p (add p (add p (σ1 p (get_or w (i + 14) 0)) (get_or w (i + 9) 0)) (σ0 p (get_or w (i + 1) 0))) (get_or w i 0)
@@ -113,14 +143,14 @@ module _ (p : Params) where
   halfway-at b h w v t a c n e f = let q : t + a + c ≡ t + n = omega arith in rw q at f
 
   -- all words are there, and the last rounds done
-  pub halfway-done : (b h w u v r : List ℕ) (n : ℕ) → n + 16 ≡ p.turns → length w ≡ p.turns → Halfway p b h n w u
-      → (u ≡ rounds p w n h → v ≡ rounds p w p.turns h) → r ≡ adds p h v → r ≡ compress p h b
+  pub halfway-done : (n : ℕ) → p.turns ≡ n → 16 ≤ n → (b h w u v r : List ℕ) → length w ≡ n → Halfway p b h (n - 16) w u
+      → (u ≡ rounds p w (n - 16) h → v ≡ rounds p w n h) → r ≡ adds p h v → r ≡ compress p h b
   unfolding compress
-  halfway-done b h w u v r n e l g f k =
-      let m : p.turns - 16 ≡ n = omega arith in
-      let q : w ≡ schedule p n b = sym (take_all (n + 16) w (omega arith)) ∙ g.words in
-      let z : v ≡ rounds p (schedule p n b) p.turns h = f g.value ∙ ap (λ (x : List ℕ). rounds p x p.turns h) q in
-      rw (k, z, m)
+  halfway-done n e o b h w u v r l g f k =
+      let s = schedule p (n - 16) b in
+      let q : w ≡ s = sym (take_all (n - 16 + 16) w (omega arith)) ∙ g.words in
+      let z : v ≡ rounds p s n h = f g.value ∙ ap (λ (x : List ℕ). rounds p x n h) q in
+      rw (k, z, e)
 
   -- ---- the digest
 
@@ -133,55 +163,77 @@ module _ (p : Params) where
   unfolding joined
   joined-one x = append-nil (bytes p.size x)
 
-  pub joined_step : (o l ws : List ℕ) (i n : ℕ) → i < length ws → p.size * i + n ≡ length o → p.size ≤ n
-      → take (p.size * i) o ≡ joined p (take i ws)
-      → l ≡ bytes p.size (get_or ws i 0) ++ drop p.size (take n (drop (p.size * i) o))
-      → take (p.size * (i + 1)) (put_mid (p.size * i) n o l) ≡ joined p (take (i + 1) ws)
-  joined_step o l ws i n h k m e f =
+  -- The first i words of ws stand at the front of o, which has n bytes.
+  pub record Joined (n : ℕ) (ws : List ℕ) (i : ℕ) (o : List ℕ) : Type 0 where
+    pub front : take (p.size * i) o ≡ joined p (take i ws)
+    pub whole : length o ≡ n
+
+  pub joined-none : (n : ℕ) (ws o : List ℕ) → length o ≡ n → Joined n ws 0 o
+  unfolding joined
+  joined-none n ws o e = record { front = rw mul-zero refl; whole = e }
+
+  -- the word i, written behind those before it
+  pub joined_next : (n : ℕ) (ws o o' : List ℕ) (i : ℕ) → i < length ws → p.size * (i + 1) ≤ n → Joined n ws i o
+      → o' ≡ pasted o (p.size * i) (bytes p.size (get_or ws i 0)) → Joined n ws (i + 1) o'
+  joined_next n ws o o' i h k e f =
       let x : List ℕ = bytes p.size (get_or ws i 0) in
       let b : length x ≡ p.size = bytes-length p.size (get_or ws i 0) in
-      let g : l ≡ x ++ drop (length x) (take n (drop (p.size * i) o)) = rw b f in
       let s : p.size * (i + 1) ≡ p.size * i + p.size = rw (mul-add, mul-one) in
-      rw (
-        lent-pasted o l x (p.size * i) n (omega arith) (omega arith) g,
-        s,
-        taken o x (p.size * i) (p.size * i + p.size) (omega arith) (omega arith),
-        add-one,
-        take-suc ws i 0 h,
-        joined-append,
-        joined-one,
-        e,
-      )
+      let l = e.whole in
+      record {
+        front = rw (
+          f,
+          s,
+          taken o x (p.size * i) (p.size * i + p.size) (omega arith) (omega arith),
+          add-one,
+          take-suc ws i 0 h,
+          joined-append,
+          joined-one,
+          e.front,
+        );
+        whole = rw f (pasted_length o (p.size * i) x (omega arith)) ∙ l;
+      }
+
+  pub joined-done : (n : ℕ) (ws o : List ℕ) → length ws ≡ 8 → 8 * p.size ≡ n → Joined n ws 8 o → o ≡ joined p ws
+  joined-done n ws o e f h =
+      sym (take_all (p.size * 8) o (omega (arith, h.whole))) ∙ h.front ∙ ap (joined p) (take_all 8 ws (omega arith))
 
   -- ---- the running hash
 
   -- a room that f was written to, and b behind it
-  pub room-filled : (f b o l : List ℕ) (i k : ℕ) → length f ≡ i → i + k ≡ p.block → length b ≤ k
-      → o ≡ f ++ drop (length f) (replicate p.block 0)
+  pub room-filled : (n : ℕ) → p.block ≡ n → (f b o l : List ℕ) (i k : ℕ) → length f ≡ i → i + k ≡ n → length b ≤ k
+      → o ≡ f ++ drop (length f) (replicate n 0)
       → l ≡ b ++ drop (length b) (take k (drop i o))
       → put_mid i k o l ≡ room_of p (f ++ b)
   unfolding pasted room_of
-  room-filled f b o l i k e h g q r =
-      let a : p.block - length f ≡ k = omega arith in
-      let z : o ≡ f ++ replicate k 0 = rw (q, drop-zeros (length f) p.block (omega arith), a) in
+  room-filled N eN f b o l i k e h g q r =
+      let a : N - length f ≡ k = omega arith in
+      let z : o ≡ f ++ replicate k 0 = rw (q, drop-zeros (length f) N (omega arith), a) in
       let d : drop (i + length b) o ≡ replicate (k - length b) 0 =
       sym (drop-drop (length b) i o) ∙ ap (drop (length b)) (ap (drop i) z ∙ drop_at f (replicate k 0) i e) ∙ drop-zeros (length b) k g in
-      let n : length o ≡ p.block = rw z (simp (length-append, length-replicate) (omega arith)) in
+      let n : length o ≡ N = rw z (simp (length-append, length-replicate) (omega arith)) in
       let m : k - length b ≡ p.block - length (f ++ b) = simp length-append (omega arith) in
       lent-pasted o l b i k g (omega arith) r
       ∙ rw (d, z, take_at f (replicate k 0) i e, m) (sym (append_assoc f b (replicate (p.block - length (f ++ b)) 0)))
 
   -- s after the bytes f: n bytes of s fill the block l, the rest follows it
   pub absorbed : 0 < p.block → (h v r f s l : List ℕ) (n : ℕ) → length f + n ≡ p.block → n ≤ length s
-      → l ≡ room_of p (f ++ take n s) → v ≡ run p h l → r ≡ run p v (take (length s - n) (drop n s)) → r ≡ run p h (f ++ s)
+      → l ≡ room_of p (f ++ take n s) → v ≡ compress p h l → r ≡ run p v (take (length s - n) (drop n s)) → r ≡ run p h (f ++ s)
   absorbed pos h v r f s l n e hn el ev er =
       let b : length (f ++ take n s) ≡ p.block = simp (length-append, length-take) (omega arith) in
       rw (er, ev, el, room-full p pos (f ++ take n s) b, part-rest n s)
-      (sym (run-append p pos 1 h (f ++ take n s) (drop n s) (b ∙ sym (one-mul p.block)))
+      (sym (run-block p pos h (f ++ take n s) (drop n s) b)
       ∙ ap (run p h) (append_assoc f (take n s) (drop n s) ∙ ap (λ (x : List ℕ). f ++ x) (take-append-drop n s)))
 
-  -- what is left of f and s, where they fill a block: the end of s
-  pub left_over_lem : 0 < p.block → (f s : List ℕ) (k : ℕ) → length f < p.block → p.block ≤ length f + length s
+  -- the chunk at i of s, after those before it
+  pub run-chunk : 0 < p.block → (n : ℕ) → p.block ≡ n → (s v r t : List ℕ) (i : ℕ) → (i + 1) * n ≤ length s → r ≡ compress p v (take n (drop (i * n) s))
+      → run p v (drop (i * n) s) ≡ t → run p r (drop ((i + 1) * n) s) ≡ t
+  run-chunk pos n e s v r t i h f g =
+      let m : (i + 1) * n ≡ i * n + n = rw (add-one, suc-mul) in
+      let k : i * n + n - i * n ≡ n = omega arith in
+      rw m (run-next p pos s v r t (i * n) (i * n + n) (omega arith) (omega arith) (rw k f) g)
+
+  left_over_lem : 0 < p.block → (f s : List ℕ) (k : ℕ) → length f < p.block → p.block ≤ length f + length s
       → k ≡ length s - (length f + length s) % p.block → take (length s - k) (drop k s) ≡ left p (f ++ s)
   unfolding left
   left_over_lem pos f s k h g e =
@@ -190,10 +242,23 @@ module _ (p : Params) where
       let d : (length f + length s) / p.block * p.block ≡ length f + k = omega (arith, div-add-mod' (length f + length s) p.block, mod-le (length f + length s - p.block) p.block) in
       rw (part-rest k s, length-append, d, drop-append-add f s k)
 
+  -- what is left of f and s, where they fill a block: the end of s
+  pub left_over_at : (n : ℕ) → p.block ≡ n → 0 < n → (f s : List ℕ) (k : ℕ) → length f < n → n ≤ length f + length s
+      → k ≡ length s - (length f + length s) % n → take (length s - k) (drop k s) ≡ left p (f ++ s)
+  left_over_at n q pos f s k h g e =
+      left_over_lem (omega arith) f s k (omega arith) (omega arith) (e ∙ ap (λ (x : ℕ). length s - (length f + length s) % x) (sym q))
+
+  -- a new state
+  pub fresh-with : (n : ℕ) → p.block ≡ n → (v w : List ℕ) → v ≡ p.initial → w ≡ replicate n 0 → record { value = v; room = w; len = 0 } ≡ fresh p
+  unfolding room_of
+  fresh-with n e v w f h =
+      let z : replicate n 0 ≡ replicate (p.block - 0) 0 = ap (λ (i : ℕ). replicate {A = ℕ} i 0) (omega arith) in
+      rw (f, h, z)
+
   -- a state that was fed s
-  pub fed-with : (h : State) (v w s : List ℕ) → v ≡ run p h.value (waits p h ++ s) → w ≡ room_of p (left p (waits p h ++ s))
-      → record { value = v; room = w; len = h.len + length s } ≡ fed p h s
-  fed-with h v w s e f = rw (e, f)
+  pub fed-with : (n : ℕ) → p.block ≡ n → (h : State) (v w s : List ℕ) → v ≡ run p h.value (take (h.len % n) h.room ++ s)
+      → w ≡ room_of p (left p (take (h.len % n) h.room ++ s)) → record { value = v; room = w; len = h.len + length s } ≡ fed p h s
+  fed-with n q h v w s e f = rw (rw (← q) at e, rw (← q) at f)
 
   -- the last blocks: what waits, a bit 1, zeros, and the length n in bits
   padded-tail : (w t l : List ℕ) (n h e k c N : ℕ) → length w ≡ h → p.field ≡ k + 8 → e ≡ h + 9 + (zeros p n + k) → e - 8 + c ≡ N → 8 ≤ c → 8 * n < 256 ^ 8
@@ -219,7 +284,7 @@ module _ (p : Params) where
       )
 
   -- the digest, once the last blocks t hold what waits, a bit 1, and the length at their end e
-  pub finished-with : 0 < p.block → (h : State) (t l v d : List ℕ) (e k c N : ℕ) → length h.room ≡ p.block → p.field ≡ k + 8
+  finished-with : 0 < p.block → (h : State) (t l v d : List ℕ) (e k c N : ℕ) → length h.room ≡ p.block → p.field ≡ k + 8
       → e ≡ h.len % p.block + (p.field + 1) + zeros p h.len → e - 8 + c ≡ N → 8 ≤ c → 8 * h.len < 256 ^ 8
       → t ≡ waits p h ++ drop (length (waits p h)) (replicate N 0)
       → l ≡ bytes 8 (h.len * 8) ++ drop 8 (take c (drop (e - 8) (set t (h.len % p.block) 0x80)))
@@ -230,3 +295,11 @@ module _ (p : Params) where
       let x : take e (put_mid (e - 8) c (set t (h.len % p.block) 0x80) l) ≡ waits p h ++ padding p h.len =
       padded-tail (waits p h) t l h.len (h.len % p.block) e k c N w ek (omega arith) ec hc hn et el in
       rw (ed, ev, x)
+
+  pub finished-by : (n : ℕ) → p.block ≡ n → 0 < n → (h : State) (t l v d : List ℕ) (e k c N : ℕ) → length h.room ≡ n → p.field ≡ k + 8
+      → e ≡ h.len % n + (p.field + 1) + zeros p h.len → e - 8 + c ≡ N → 8 ≤ c → 8 * h.len < 256 ^ 8
+      → t ≡ take (h.len % n) h.room ++ drop (length (take (h.len % n) h.room)) (replicate N 0)
+      → l ≡ bytes 8 (h.len * 8) ++ drop 8 (take c (drop (e - 8) (set t (h.len % n) 0x80)))
+      → v ≡ run p h.value (take e (put_mid (e - 8) c (set t (h.len % n) 0x80) l)) → d ≡ joined p v → d ≡ finished p h
+  finished-by n q pos h t l v d e k c N hr ek ee ec hc hn et el ev ed =
+      finished-with (omega arith) h t l v d e k c N (omega arith) ek (rw (← q) at ee) ec hc hn (rw (← q) at et) (rw (← q) at el) (rw (← q) at ev) ed

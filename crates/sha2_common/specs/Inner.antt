@@ -1,3 +1,4 @@
 -- SPDX-License-Identifier: MIT
 -- What only inner contracts cite.
 pub mod Rounds
+pub mod Words

@@ -33,3 +33,7 @@ fed p h s = record { value = run p h.value (waits p h ++ s); room = room_of p (l
 -- The digest that the state h gives.
 abbrev pub finished : Params → State → List ℕ
 finished p h = joined p (run p h.value (waits p h ++ padding p h.len))
+
+-- The code's state, by its fields.
+abbrev pub state_of : (value room : List ℕ) (len : ℕ) → State
+state_of v w n = record { value = v; room = w; len = n }

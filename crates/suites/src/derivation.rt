@@ -11,6 +11,8 @@ ghost use Rattle.suites.specs.Inner.Sizes.{label_size, max_text};
 
 use crate::sizes::{Hash, Suite};
 use header::{Ctr, Kid};
+use sha256::Sha256;
+use sha512::Sha512;
 
 // The bytes of a label behind its text: the KID and the suite's number.
 const KID_SIZE: usize = 8;
@@ -57,12 +59,12 @@ pub fn expand_label(suite: Suite, base: &[u8], info: &[u8], out: &mut [u8])
 {
     match suite.hash() {
         Hash::Sha256 => {
-            let secret = hmac::hkdf_extract_sha256(b"", base);
-            hmac::hkdf_expand_sha256(&secret, info, out);
+            let secret = hmac::hkdf_extract::<Sha256, _, _>(b"", base);
+            hmac::hkdf_expand::<Sha256, _, _>(&secret, info, out);
         }
         Hash::Sha512 => {
-            let secret = hmac::hkdf_extract_sha512(b"", base);
-            hmac::hkdf_expand_sha512(&secret, info, out);
+            let secret = hmac::hkdf_extract::<Sha512, _, _>(b"", base);
+            hmac::hkdf_expand::<Sha512, _, _>(&secret, info, out);
         }
     }
 }

@@ -1,17 +1,16 @@
 -- SPDX-License-Identifier: MIT
 -- A record written is read back, and what obeys the layout is a record in range. Assumes nothing.
 use Rattle.std.specs.Prelude.{Option, Some, None}
-use mathlib.Core.Path.{◌≡◌, refl, sym, ◌∙◌, ap, ap₂}
+use mathlib.Core.Path.{◌≡◌, refl, sym, ◌∙◌, ap}
 use mathlib.Core.Bool.{Bool, true, false, false≢true}
 use mathlib.Core.List.{List, [], ◌∷◌, ◌++◌, append_assoc}
 use Prim.Native.Nat.{ℕ, zero, suc, ◌+◌, ◌-◌, ◌^◌, ◌<◌, ◌≤◌}
 use native.Mathlib.Nat.{mod-eq_of_lt}
-use native.Mathlib.Numerals.{add-one}
 use native.Mathlib.Omega.{arith}
 use lib.Dec.{leb, eqb}
 use lib.ListN.{length, get_or, take, drop, replicate, length-append, length-take, length-drop, length-replicate}
 use lib.Seq.{drop_at, take_at, drop-drop}
-use borrow.Author.Tests.{leb-true, leb-false, le-leb, lt-leb, ne_eqb, eq-eqb}
+use borrow.Author.Tests.{leb-true, leb-false, le-leb, lt-leb, ne_eqb}
 use Rattle.octets.specs.Octets.{Octets, number, bytes, same, pick, both}
 use Rattle.octets.proofs.Laws.{bytes-length, bytes-octets, number-bytes, number_append, number_lt, octets-append, octets-take, octets-drop, octets-replicate, same_refl, same-eq}
 use Rattle.suites.specs.Suites.{suite_of, number_of, Nk, Nn}

@@ -2,15 +2,13 @@
 -- A row's fields, written one at a time. Assumes nothing.
 use mathlib.Core.Path.{◌≡◌, refl, sym, ◌∙◌, ap, ap₂}
 use mathlib.Core.List.{List, [], ◌∷◌, ◌++◌, append_assoc, append-nil}
-use Prim.Native.Nat.{ℕ, zero, suc, ◌+◌, ◌-◌, ◌<◌, ◌≤◌}
+use Prim.Native.Nat.{ℕ, zero, suc, ◌+◌, ◌-◌, ◌≤◌}
 use native.Mathlib.Nat.{add_assoc, sub-zero}
 use native.Mathlib.Omega.{arith}
-use lib.Dec.{eqb}
 use lib.ListN.{length, take, drop, set, replicate, length-append, length-take, length-drop, length-replicate, replicate-append-replicate, drop_of_length-le}
 use lib.Seq.{drop_at, drop-drop, drop-append-le, take-append-add}
 use borrow.Rule.Slice.PartMut.{put_mid}
-use borrow.Author.Tests.{ne_eqb}
-use Rattle.octets.specs.Octets.{bytes, pasted, pick}
+use Rattle.octets.specs.Octets.{bytes, pasted}
 use Rattle.octets.proofs.Laws.{bytes-length, pasted-front, lent-pasted}
 use Rattle.suites.specs.Suites.{Nn}
 use Rattle.secure_objects.specs.Objects.{name_most}

@@ -1,10 +1,10 @@
 -- SPDX-License-Identifier: MIT
 -- What a record gives, and that it stays in range as it changes. Assumes nothing.
-use Rattle.std.specs.Prelude.{Some}
+use Rattle.std.specs.Prelude.{Option, Some, None}
 use mathlib.Core.Path.{◌≡◌, refl, sym, ◌∙◌, ap}
-use mathlib.Core.Bool.{Bool, true, false, false≢true}
+use mathlib.Core.Bool.{true, false, false≢true}
 use mathlib.Core.List.{List}
-use Prim.Native.Nat.{ℕ, ◌+◌, ◌^◌, ◌<◌, ◌≤◌}
+use Prim.Native.Nat.{ℕ, ◌^◌, ◌<◌, ◌≤◌}
 use native.Mathlib.Omega.{arith}
 use lib.Dec.{eqb}
 use lib.ListN.{length, replicate, length-replicate}
@@ -23,10 +23,8 @@ use Rattle.track_record.specs.declared.Kind.{Kind}
 use Rattle.track_record.specs.declared.Kind.TheVariants.{Sender, Receiver, Retired}
 use Rattle.track_record.specs.Layout.{fits_kind}
 use Rattle.track_record.specs.Inner.Rows.{held_of, suite_in, id_of}
-use Rattle.track_record.specs.declared.Held.{Held}
-use Rattle.track_record.specs.declared.Held.TheVariants.{Nothing}
-use Rattle.track_record.specs.declared.Held.TheVariants as Variants
-use Rattle.track_record.proofs.Codec.{InRange, Fit}
+use Rattle.track_record.specs.Inner.Rows.{Held}
+use Rattle.track_record.proofs.Codec.{Fit}
 
 -- ---- tracks
 
@@ -77,7 +75,11 @@ holds-name id (track t) f h = rw (ap (λ (i : TrackId). length i.name) (sym (hol
 
 -- ---- what a record is said to hold
 
-pub told-nothing : (r : TrackRecord) (h : Held) → h ≡ held_of r → h ≡ Nothing → is_empty r ≡ true
+-- the two parts of what is held
+pub parts_of : (k t : Kind) (s u : Suite) → ◌≡◌ {A = Option Held} (Some (k, s)) (Some (t, u)) → (k ≡ t) × (s ≡ u)
+parts_of k t s u e = let p : ◌≡◌ {A = Held} (k, s) (t, u) = cc in (ap (λ (x : Held). x.0) p, ap (λ (x : Held). x.1) p)
+
+pub told-nothing : (r : TrackRecord) (h : Option Held) → h ≡ held_of r → h ≡ None → is_empty r ≡ true
 told-nothing empty h e n = refl
 told-nothing (track t) h e n = let z : ◌≡◌ {A = ℕ} 0 1 = cc in absurd (omega arith)
 
@@ -88,11 +90,12 @@ pub record Told (r : TrackRecord) (k : Kind) (s : Suite) : Type 0 where
   pub suite-is : suite_in r ≡ Some s
   pub tag_is : tag_of r ≡ Nt s
 
-pub told : (r : TrackRecord) (h : Held) (k : Kind) (s : Suite) → h ≡ held_of r → h ≡ Variants.Track k s → Told r k s
+pub told : (r : TrackRecord) (h : Option Held) (k : Kind) (s : Suite) → h ≡ held_of r → h ≡ Some (k, s) → Told r k s
 told empty h k s e n = let z : ◌≡◌ {A = ℕ} 0 1 = cc in absurd (omega arith)
 told (track t) h k s e n =
-    let p : t.kind ≡ k = cc in
-    let q : t.suite ≡ s = cc in
+    let z : Some (t.kind, t.suite) ≡ Some (k, s) = sym e ∙ n in
+    let p = (parts_of t.kind k t.suite s z).0 in
+    let q = (parts_of t.kind k t.suite s z).1 in
     record { held = refl; sends-is = ap sends p; receives-is = ap receives p; suite-is = ap Some q; tag_is = ap Nt q }
 
 -- ---- a record just added

@@ -8,31 +8,30 @@ use Prim.Native.Nat.{ℕ, zero, suc, ◌+◌, ◌*◌, ◌-◌, ◌<◌, ◌≤�
 use native.Mathlib.Nat.{sub-zero}
 use native.Mathlib.Omega.{arith}
 use lib.Dec.{leb, ltb, eqb}
-use lib.ListN.{length, get_or, take, drop, set, replicate, length-append, length-take, length-drop, length-replicate}
+use lib.ListN.{length, get_or, take, drop, set, replicate, length-take, length-drop, length-replicate}
 use lib.Seq.{drop-drop}
 use borrow.Rule.Slice.PartMut.{put_mid}
-use borrow.Author.Tests.{le-leb, lt-leb, leb-true, leb-false, lt-ltb, le-ltb, ltb-true, ltb-false, eq-eqb, ne_eqb, eqb-true}
+use borrow.Author.Tests.{le-leb, lt-leb, leb-true, leb-false, lt-ltb, le-ltb, ltb-true, ltb-false, eq-eqb, ne_eqb}
 use Rattle.octets.specs.Octets.{Octets, number, bytes, pasted, same, pick, both}
 use Rattle.octets.proofs.Laws.{part-rest, number-add, number_lt, octets-drop, bytes-length, pasted-append, pasted_length}
 use Rattle.suites.specs.Suites.{suite_of, number_of, Nk, Nn}
 use Rattle.suites.specs.declared.sizes.Suite.{Suite}
-use Rattle.suites.proofs.Laws.{Nk-most, number_is}
+use Rattle.suites.proofs.Laws.{Nk-most}
 use Rattle.secure_objects.specs.Objects.{name_most, object_ceiling, counter}
 use Rattle.secure_objects.specs.Derivation.{moq_key, moq_salt}
 use Rattle.secure_objects.proofs.Laws.{counter-bytes, key-length, salt-length}
 use Rattle.answers.proofs.Basics.{Two, yes', no', two, told-false, told-true}
-use Rattle.track_record.specs.Layout.{record_size, mark_at, suite_at, flag_at, key_id_at, pair_at, pair_size, length_at, salt_at, key_at, key_room, name_at, mark_of, kind_of, is_mark, flag, padded, row, encode, floor_in, decode_as, decode, fits_kind, fits, obeys}
-use Rattle.track_record.specs.Record.{TrackId, track_id, same_track, Track, TrackRecord, empty, track, is_empty, is_sending, holds, floor_of, salt_of, key_of, kind_for, fresh, advanced, retired}
+use Rattle.track_record.specs.Layout.{record_size, mark_at, suite_at, flag_at, key_id_at, pair_at, pair_size, length_at, salt_at, key_at, key_room, name_at, mark_of, kind_of, flag, padded, row, encode, floor_in, decode_as, decode, fits_kind, fits, obeys}
+use Rattle.track_record.specs.Record.{TrackId, track_id, same_track, Track, TrackRecord, empty, track, is_empty, holds, floor_of, salt_of, key_of, kind_for, fresh, advanced, retired}
 use Rattle.track_record.specs.Inner.Rows.{Row, held_of, suite_in, start_row, with_pair, with_last, id_of}
-use Rattle.track_record.specs.declared.Held.{Held}
-use Rattle.track_record.specs.declared.Held.TheVariants.{Nothing}
-use Rattle.track_record.specs.declared.Held.TheVariants as Variants
+use Rattle.track_record.specs.Inner.Rows.{Held}
 use Rattle.track_record.specs.declared.Kind.{Kind}
 use Rattle.track_record.specs.declared.Kind.TheVariants.{Sender, Receiver, Retired}
 use Rattle.track_record.specs.declared.Role.{Role}
-use Rattle.track_record.proofs.Codec.{InRange, Fit, Read, read, read-unmarked, read-long, read-unsuited, read-track, obeys-fits, padded-length}
-use Rattle.track_record.proofs.Records.{empty-is}
-use Rattle.track_record.proofs.Fields.{row_with, row-with, row-empty, write-mark, write-suite, write-flag, write-key_id, write-pair, write-length, write-salt, write-name, write-key, wipe, padded-zeros, lent-whole}
+use Rattle.track_record.proofs.Codec.{InRange, Read, read, read-unmarked, read-long, read-unsuited, read-track, obeys-fits}
+use Rattle.track_record.proofs.Records.{empty-is, parts_of}
+use Rattle.std.specs.Option.{is_some}
+use Rattle.track_record.proofs.Fields.{row_with, row-empty, write-key_id, write-pair, write-length, write-salt, write-name, write-key, wipe, padded-zeros, lent-whole}
 
 -- ---- what a record is for
 
@@ -43,31 +42,43 @@ number-rest : (n i : ℕ) (l : List ℕ) → number n (take (length l - i) (drop
 number-rest n i l = ap (number n) (part-rest i l)
 
 module _ (l : List ℕ) where
-  pub held_low : get_or l mark_at 0 < 1 → Nothing ≡ held_of (decode l)
+  pub held_low : get_or l mark_at 0 < 1 → None ≡ held_of (decode l)
   held_low h = sym (ap held_of (read-unmarked l (rw (lt-leb 1 (get_or l mark_at 0) h))))
 
-  pub held_high : 1 ≤ get_or l mark_at 0 → 3 < get_or l mark_at 0 → Nothing ≡ held_of (decode l)
+  pub held_high : 1 ≤ get_or l mark_at 0 → 3 < get_or l mark_at 0 → None ≡ held_of (decode l)
   held_high a h = sym (ap held_of (read-unmarked l (rw (le-leb 1 (get_or l mark_at 0) a, lt-leb (get_or l mark_at 0) 3 h))))
 
-  pub held-long : (v : ℕ) → v ≡ number 2 (take (length l - length_at) (drop length_at l)) → name_most < v → Nothing ≡ held_of (decode l)
+  pub held-long : (v : ℕ) → v ≡ number 2 (take (length l - length_at) (drop length_at l)) → name_most < v → None ≡ held_of (decode l)
   held-long v e h = sym (ap held_of (read-long l (rw (e ∙ number-rest 2 length_at l) at h)))
 
-  pub held-unsuited : (f : Option Suite) → f ≡ suite_of (get_or l suite_at 0) → f ≡ None → Nothing ≡ held_of (decode l)
+  pub held-unsuited : (f : Option Suite) → f ≡ suite_of (get_or l suite_at 0) → f ≡ None → None ≡ held_of (decode l)
   held-unsuited f e u = sym (ap held_of (read-unsuited l (sym e ∙ u)))
 
   pub held-track : (v : ℕ) (f : Option Suite) (s : Suite) (k : Kind) → 1 ≤ get_or l mark_at 0 → get_or l mark_at 0 ≤ 3 → v ≡ number 2 (take (length l - length_at) (drop length_at l)) → v ≤ name_most
-      → f ≡ suite_of (get_or l suite_at 0) → f ≡ Some s → k ≡ kind_of (get_or l mark_at 0) → Variants.Track k s ≡ held_of (decode l)
+      → f ≡ suite_of (get_or l suite_at 0) → f ≡ Some s → k ≡ kind_of (get_or l mark_at 0) → Some (k, s) ≡ held_of (decode l)
   unfolding decode_as
   held-track v f s k a b e h q u w =
-      ap (λ (x : Kind). Variants.Track x s) w
+      ap (λ (x : Kind). Some (x, s)) w
       ∙ sym (ap held_of (read-track l s (rw (le-leb 1 (get_or l mark_at 0) a, le-leb (get_or l mark_at 0) 3 b)) (rw (e ∙ number-rest 2 length_at l) at h) (sym q ∙ u)))
 
 -- an answer that there is nothing says that the record is empty
-pub nothing-empty : (r : TrackRecord) (h : Held) → h ≡ held_of r → h ≡ Nothing → true ≡ is_empty r
+pub held-none : (r : TrackRecord) (h : Option Held) (b : Bool) → h ≡ held_of r → is_some h ≡ not b → b ≡ is_empty r
+held-none empty h b e n = by b (sym (ap is_some e) ∙ n)
+  where
+    by : (b : Bool) → false ≡ not b → b ≡ true
+    by true q = refl
+    by false q = absurd (false≢true q)
+held-none (track t) h b e n = by b (sym (ap is_some e) ∙ n)
+  where
+    by : (b : Bool) → true ≡ not b → b ≡ false
+    by true q = absurd (false≢true (sym q))
+    by false q = refl
+
+pub nothing-empty : (r : TrackRecord) (h : Option Held) → h ≡ held_of r → h ≡ None → true ≡ is_empty r
 nothing-empty empty h e n = refl
 nothing-empty (track t) h e n = let z : ◌≡◌ {A = ℕ} 0 1 = cc in absurd (omega arith)
 
-pub something-held : (r : TrackRecord) (h : Held) (k : Kind) (s : Suite) → h ≡ held_of r → h ≡ Variants.Track k s → false ≡ is_empty r
+pub something-held : (r : TrackRecord) (h : Option Held) (k : Kind) (s : Suite) → h ≡ held_of r → h ≡ Some (k, s) → false ≡ is_empty r
 something-held empty h k s e n = let z : ◌≡◌ {A = ℕ} 0 1 = cc in absurd (omega arith)
 something-held (track t) h k s e n = refl
 
@@ -252,16 +263,16 @@ pub last_written : (l out r : List ℕ) (v w : ℕ) → (get_or l flag_at 0 ≡ 
 unfolding with_last
 last_written l out r v w f eg eo e = e ∙ ap (λ (n : ℕ). with_pair n out) (pair_read l v w eg eo) ∙ sym (rw (ne_eqb (get_or l flag_at 0) 0 f))
 
-module _ (l : List ℕ) (kind : Kind) (s : Suite) (h : held_of (decode l) ≡ Variants.Track kind s) where
+module _ (l : List ℕ) (kind : Kind) (s : Suite) (h : held_of (decode l) ≡ Some (kind, s)) where
   pub told-held : is_empty (decode l) ≡ false
   told-held = sym (something-held (decode l) (held_of (decode l)) kind s refl h)
 
   told-suite : suite_in (decode l) ≡ Some s
   told-suite = by (decode l) h
     where
-      by : (r : TrackRecord) → held_of r ≡ Variants.Track kind s → suite_in r ≡ Some s
+      by : (r : TrackRecord) → held_of r ≡ Some (kind, s) → suite_in r ≡ Some s
       by empty e = let z : ◌≡◌ {A = ℕ} 0 1 = cc in absurd (omega arith)
-      by (track t) e = let q : t.suite ≡ s = cc in ap Some q
+      by (track t) e = ap Some (parts_of t.kind kind t.suite s e).1
 
   pub suite-told : suite_in (decode l) ≡ Some s
   suite-told = told-suite
@@ -269,8 +280,8 @@ module _ (l : List ℕ) (kind : Kind) (s : Suite) (h : held_of (decode l) ≡ Va
   there-kind : ((decode_as (read l told-held).suite l).kind ≡ kind) × ((read l told-held).suite ≡ s)
   unfolding decode_as
   there-kind =
-      let e : Variants.Track (kind_of (get_or l mark_at 0)) (read l told-held).suite ≡ Variants.Track kind s = sym (ap held_of (read l told-held).is) ∙ h in
-      (cc, cc)
+      let e : Some (kind_of (get_or l mark_at 0), (read l told-held).suite) ≡ Some (kind, s) = sym (ap held_of (read l told-held).is) ∙ h in
+      parts_of (kind_of (get_or l mark_at 0)) kind (read l told-held).suite s e
 
   pub written_back : (key_id : ℕ) (name a b c d salt key : List ℕ) → key_id ≡ (id_of (decode l)).key_id → name ≡ (id_of (decode l)).name → salt ≡ salt_of (decode l) → length salt ≡ Nn → key ≡ key_of (decode l) → length key ≡ Nk s
       → a ≡ start_row kind s key_id name → b ≡ with_last l a → c ≡ pasted b salt_at salt → d ≡ pasted c key_at key → d ≡ encode (decode l)
@@ -291,7 +302,7 @@ module _ (l : List ℕ) (kind : Kind) (s : Suite) (h : held_of (decode l) ≡ Va
 
 -- ---- whether a record fits its kind
 
-module _ (l : List ℕ) (kind : Kind) (s : Suite) (h : held_of (decode l) ≡ Variants.Track kind s) where
+module _ (l : List ℕ) (kind : Kind) (s : Suite) (h : held_of (decode l) ≡ Some (kind, s)) where
   abbrev here : Track
   here = decode_as (read l (told-held l kind s h)).suite l
 
@@ -339,7 +350,7 @@ unfolding encode
 zeros-empty = refl
 
 module _ (l : List ℕ) where
-  pub judged-empty : (h : Held) (r : Bool) → h ≡ held_of (decode l) → h ≡ Nothing → length l ≡ record_size → r ≡ same (replicate (length l) 0) l → r ≡ obeys l
+  pub judged-empty : (h : Option Held) (r : Bool) → h ≡ held_of (decode l) → h ≡ None → length l ≡ record_size → r ≡ same (replicate (length l) 0) l → r ≡ obeys l
   unfolding obeys encode fits
   judged-empty h r e n k w =
       let q : decode l ≡ empty = empty-is (decode l) (sym (nothing-empty (decode l) h e n)) in

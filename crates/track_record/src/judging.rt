@@ -1,14 +1,13 @@
 // SPDX-License-Identifier: MIT
 // Judging one record's bytes: they obey the layout where what they read as, written anew, is the same bytes, and fits its kind.
-ghost use Rattle.std.specs.Prelude.{◌≡◌, true, ◌≤◌, length, replicate};
+ghost use Rattle.std.specs.Prelude.{Some, ◌≡◌, true, ◌≤◌, length, replicate};
 ghost use Rattle.octets.specs.Octets.{same};
 ghost use Rattle.track_record.specs.Layout.{record_size, encode, decode, fits, obeys};
 ghost use Rattle.track_record.specs.Record.{empty};
 ghost use Rattle.track_record.specs.Inner.Rows.{held_of, with_last};
-ghost use Rattle.track_record.specs.declared.Held.TheVariants.{Track};
 
 use crate::row::{held_in, key_id_of, key_of, name_of, salt_of, start, write_pair};
-use crate::{FLAG, Held, KEY, Kind, PAIR_GROUP, PAIR_OBJECT, RECORD_SIZE, SALT};
+use crate::{FLAG, KEY, Kind, PAIR_GROUP, PAIR_OBJECT, RECORD_SIZE, SALT};
 use secure_objects::{GroupId, ObjectId};
 use suites::Suite;
 
@@ -37,7 +36,7 @@ fn write_last(out: &mut [u8], row: &[u8])
 
 // Writes what a record's bytes read as, which is a track, to out.
 fn write_back(out: &mut [u8], row: &[u8], kind: Kind, suite: Suite)
-    requires { (out.old ≡ encode empty) × (length out.old ≡ record_size) × (length row.now ≡ record_size) × (held_of (decode row.now) ≡ Track kind suite) }
+    requires { (out.old ≡ encode empty) × (length out.old ≡ record_size) × (length row.now ≡ record_size) × (held_of (decode row.now) ≡ Some (kind, suite)) }
     ensures { out.new ≡ encode (decode row.now) }
 {
     start(out, kind, suite, name_of(row), key_id_of(row));
@@ -48,7 +47,7 @@ fn write_back(out: &mut [u8], row: &[u8], kind: Kind, suite: Suite)
 
 // Whether a record's bytes, which are a track, fit its kind.
 fn fits_kind(row: &[u8], kind: Kind, suite: Suite) -> bool
-    requires { (length row.now ≡ record_size) × (held_of (decode row.now) ≡ Track kind suite) }
+    requires { (length row.now ≡ record_size) × (held_of (decode row.now) ≡ Some (kind, suite)) }
     ensures { result ≡ fits (decode row.now) }
 {
     match kind {
@@ -68,7 +67,7 @@ pub fn obeys_layout(row: &[u8]) -> bool
     requires { length row.now ≡ record_size }
     ensures { result ≡ obeys row.now }
 {
-    let Held::Track(kind, suite) = held_in(row) else {
+    let Some((kind, suite)) = held_in(row) else {
         return is_zero(row);
     };
     let mut written = [0u8; RECORD_SIZE];

@@ -6,8 +6,6 @@
 pub mod judging;
 pub mod row;
 
-use suites::Suite;
-
 pub const RECORD_SIZE: usize = 344;
 
 // Where the fields of a record stand.
@@ -39,23 +37,16 @@ const RECEIVER: u8 = 2;
 const RETIRED: u8 = 3;
 
 // What a track is added for.
-#[derive(Clone, Copy)]
+#[derive(Clone, Copy, PartialEq, Eq)]
 pub enum Role {
     Sending,
     Receiving,
 }
 
 // What a record that is not empty is for.
-#[derive(Clone, Copy)]
+#[derive(Clone, Copy, PartialEq, Eq)]
 pub enum Kind {
     Sender,
     Receiver,
     Retired,
-}
-
-// What a record holds: a track, with what it is for and its suite, or nothing.
-#[derive(Clone, Copy)]
-pub enum Held {
-    Track(Kind, Suite),
-    Nothing,
 }

@@ -9,8 +9,8 @@ ghost use Rattle.track_record.specs.Record.{empty, is_empty, is_sending, track_i
 ghost use Rattle.track_record.specs.Inner.Rows.{Row, held_of, suite_in, start_row, with_pair, id_of};
 
 use crate::{
-    FLAG, Held, KEY, KEY_ID, Kind, MARK, NAME, NAME_LENGTH, PAIR_GROUP, PAIR_OBJECT, RECEIVER,
-    RETIRED, Role, SALT, SENDER, SUITE,
+    FLAG, KEY, KEY_ID, Kind, MARK, NAME, NAME_LENGTH, PAIR_GROUP, PAIR_OBJECT, RECEIVER, RETIRED,
+    Role, SALT, SENDER, SUITE,
 };
 use secure_objects::{GroupId, KeyId, MAX_NAME, ObjectId, derivation};
 use suites::Suite;
@@ -49,25 +49,23 @@ fn kind_for(role: Role) -> Kind
     }
 }
 
-// What a record holds.
-pub fn held_in(row: &[u8]) -> Held
+// What the track is for that a record holds, and its suite; none in an empty one.
+pub fn held_in(row: &[u8]) -> Option<(Kind, Suite)>
     requires { length row.now ≡ record_size }
     ensures { result ≡ held_of (decode row.now) }
 {
     let mark = row[MARK];
     if mark < SENDER {
-        return Held::Nothing;
+        return None;
     }
     if RETIRED < mark {
-        return Held::Nothing;
+        return None;
     }
     if (MAX_NAME as u64) < octets::read_be(&row[NAME_LENGTH..], 2) {
-        return Held::Nothing;
+        return None;
     }
-    let Some(suite) = suites::sizes::find(row[SUITE] as u64) else {
-        return Held::Nothing;
-    };
-    Held::Track(kind_of(mark), suite)
+    let suite = suites::sizes::find(row[SUITE] as u64)?;
+    Some((kind_of(mark), suite))
 }
 
 // Whether a record is empty.
@@ -75,10 +73,7 @@ pub fn is_empty(row: &[u8]) -> bool
     requires { length row.now ≡ record_size }
     ensures { result ≡ is_empty (decode row.now) }
 {
-    let Held::Track(_, _) = held_in(row) else {
-        return true;
-    };
-    false
+    held_in(row).is_none()
 }
 
 // The Key ID of a record that is not empty.

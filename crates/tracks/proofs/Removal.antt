@@ -12,8 +12,7 @@ use Rattle.answers.specs.Answers.{done, store_invalid, kid_missing, role_refused
 use Rattle.answers.proofs.Basics.{told-false, told-true}
 use Rattle.track_record.specs.Record.{TrackId, TrackRecord, empty, is_empty, is_retired, retired}
 use Rattle.track_record.specs.Inner.Rows.{held_of}
-use Rattle.track_record.specs.declared.Held.{Held}
-use Rattle.track_record.specs.declared.Held.TheVariants as Variants
+use Rattle.track_record.specs.Inner.Rows.{Held}
 use Rattle.track_record.specs.declared.Kind.{Kind}
 use Rattle.track_record.specs.Record as Records
 use Rattle.tracks.specs.Calls.{make, remove_causes, remove_at, remove}
@@ -36,11 +35,11 @@ make-done s x r e t q = let f = told-true r _ e t in (rw f, rw f q)
 
 -- ---- whether a record is retired
 
-pub retired-none : (r : TrackRecord) (h : Held) → h ≡ held_of r → h ≡ Variants.Nothing → false ≡ is_retired r
+pub retired-none : (r : TrackRecord) (h : Option Held) → h ≡ held_of r → h ≡ None → false ≡ is_retired r
 retired-none empty h e n = refl
 retired-none (Records.track t) h e n = let z : ◌≡◌ {A = ℕ} 0 1 = cc in absurd (omega arith)
 
-pub retired-told : (r : TrackRecord) (h : Held) (k : Kind) (s : Rattle.suites.specs.declared.sizes.Suite.Suite) → h ≡ held_of r → h ≡ Variants.Track k s → Records.rests k ≡ is_retired r
+pub retired-told : (r : TrackRecord) (h : Option Held) (k : Kind) (s : Rattle.suites.specs.declared.sizes.Suite.Suite) → h ≡ held_of r → h ≡ Some (k, s) → Records.rests k ≡ is_retired r
 retired-told empty h k s e n = let z : ◌≡◌ {A = ℕ} 0 1 = cc in absurd (omega arith)
 retired-told (Records.track t) h k s e n = let q : k ≡ t.kind = cc in ap Records.rests q
 

@@ -2,7 +2,8 @@
 -- Walks over the records of a store, one turn each, over plain variables. Assumes nothing.
 use Rattle.std.specs.Prelude.{Option, Some, None}
 use mathlib.Core.Path.{◌≡◌, refl, sym, ◌∙◌, ap}
-use mathlib.Core.Bool.{Bool, true, false, not}
+use mathlib.Core.Bool.{Bool, true, false, not, false≢true}
+use Rattle.std.specs.Option.{is_some}
 use mathlib.Core.List.{List, [], ◌∷◌}
 use Prim.Native.Nat.{ℕ, zero, suc, ◌+◌, ◌*◌, ◌/◌, ◌%◌, ◌-◌, ◌<◌, ◌≤◌}
 use native.Mathlib.Omega.{arith}
@@ -180,6 +181,12 @@ module _ (x : TrackRecord) (rs : List TrackRecord) (v : TrackId) (r : Bool) (e :
   alone-found p i f w =
       let g : FoundIn (Some i) v rs = rw w at f in
       sym (alone-is ∙ ap is_empty g.1 ∙ holds-some v (get_or rs i empty) g.2)
+
+  pub alone-told : (p : Option ℕ) (b : Bool) → FoundIn p v rs → is_some p ≡ not b → b ≡ alone x rs
+  alone-told None true f h = alone-nowhere None f refl
+  alone-told None false f h = absurd (false≢true h)
+  alone-told (Some i) true f h = absurd (false≢true (sym h))
+  alone-told (Some i) false f h = alone-found (Some i) i f refl
 
 -- ---- the whole store
 

@@ -3,6 +3,7 @@
 #![tactic(auto)]
 
 ghost use Rattle.std.specs.Prelude.{◌≡◌, true, false, ◌+◌, ◌*◌, ◌<◌, ◌≤◌, length, get_or, set};
+ghost use Rattle.answers.specs.Refusals.{number_of};
 ghost use Rattle.answers.specs.Limits.{base_key_most};
 ghost use Rattle.secure_objects.specs.Objects.{name_most, object_ceiling, counter};
 ghost use Rattle.track_record.specs.Layout.{record_size, decode};
@@ -12,10 +13,10 @@ ghost use Rattle.tracks.specs.Tracks.{length_right, encode_all, records, sound};
 ghost use Rattle.tracks.specs.Table.{alone, apart};
 ghost use Rattle.tracks.specs.Inner.Places.{Whole, part_at, rows_obey, Within, RowOf, FoundIn, FreeIn};
 
-use answers::{DONE, KID_MISSING, ROLE_REFUSED, STORE_INVALID};
+use answers::Refusal;
 use secure_objects::{GroupId, KeyId, ObjectId};
 use suites::Suite;
-use track_record::{Held, Kind, RECORD_SIZE, Role, judging, row};
+use track_record::{Kind, RECORD_SIZE, Role, judging, row};
 
 pub const MAX_RECORDS: usize = 16;
 
@@ -87,10 +88,7 @@ fn alone_in(row: &[u8], rest: &[u8]) -> bool
     if row::is_empty(row) {
         return true;
     }
-    let Some(place) = find(rest, row::name_of(row), row::key_id_of(row)) else {
-        return true;
-    };
-    false
+    find(rest, row::name_of(row), row::key_id_of(row)).is_none()
 }
 
 // Whether no two non-empty records share name and Key ID.
@@ -170,42 +168,33 @@ fn is_retired(row: &[u8]) -> bool
     requires { length row.now ≡ record_size }
     ensures { result ≡ is_retired (decode row.now) }
 {
-    let Held::Track(kind, suite) = row::held_in(row) else {
-        return false;
-    };
-    match kind {
-        Kind::Sender => false,
-        Kind::Receiver => false,
-        Kind::Retired => true,
-    }
+    matches!(row::held_in(row), Some((Kind::Retired, _)))
 }
 
 // Makes a track store: zeros throughout.
-pub fn make(store: &mut [u8]) -> u32
-    ensures value { result ≡ (make store.old).number }
+pub fn make(store: &mut [u8]) -> Result<(), Refusal>
+    ensures value { number_of result ≡ (make store.old).number }
     ensures store_after { store.new ≡ (make store.old).store }
 {
     if !length_right(store.len()) {
-        return STORE_INVALID;
+        return Err(Refusal::StoreInvalid);
     }
     octets::clear(store);
-    DONE
+    Ok(())
 }
 
 // Removes a track: its record is retired.
-pub fn remove(store: &mut [u8], name: &[u8], id: KeyId) -> u32
-    ensures value { result ≡ (remove store.old (track_id name.now id.0)).number }
+pub fn remove(store: &mut [u8], name: &[u8], id: KeyId) -> Result<(), Refusal>
+    ensures value { number_of result ≡ (remove store.old (track_id name.now id.0)).number }
     ensures store_after { store.new ≡ (remove store.old (track_id name.now id.0)).store }
 {
     if !is_sound(store) {
-        return STORE_INVALID;
+        return Err(Refusal::StoreInvalid);
     }
-    let Some(i) = find(store, name, id) else {
-        return KID_MISSING;
-    };
+    let i = find(store, name, id).ok_or(Refusal::KidMissing)?;
     if is_retired(row_at(store, i)) {
-        return ROLE_REFUSED;
+        return Err(Refusal::RoleRefused);
     }
     retire_at(store, i);
-    DONE
+    Ok(())
 }

@@ -9,4 +9,4 @@ pub returns : goal.returns
 returns c =
     counters-made _ _ _ _ _ _ _ c.read_be32-a.ensures (c.read_be32-b.ensures ∙ ap (number 4) (part-rest 4 c.args.nonce.now))
     (c.read_be32-c.ensures ∙ ap (number 4) (part-rest 8 c.args.nonce.now))
-    c.fill.ensures c.number.ensures c.requires.2
+    c.fill.ensures c.number.ensures c.requires.1

@@ -1,14 +1,14 @@
 -- SPDX-License-Identifier: MIT
 -- Inner: sixteen blocks at once, as contracts of the code cite them. Other crates cite `Blocks` with `counters_of` or `front_of`.
 -- Assumes nothing.
-use Rattle.std.specs.Prelude.{◌≡◌, Bool, List, [], ◌∷◌, ◌++◌, ℕ, zero, suc, ◌+◌, ◌*◌, ◌-◌, ◌/◌, ◌%◌, ◌^◌, ◌<◌, ◌≤◌, eqb, length, get_or, take, drop, replicate}
+use Rattle.std.specs.Prelude.{◌≡◌, List, [], ◌∷◌, ◌++◌, ℕ, zero, suc, ◌+◌, ◌*◌, ◌/◌, ◌%◌, ◌^◌, ◌<◌, ◌≤◌, eqb, length, get_or, take, drop, replicate}
 use Rattle.std.specs.Int.Bits.{bit_xor}
 use Rattle.octets.specs.Octets.{number, bytes, pick}
 use Rattle.aes.specs.Aes.{block_size, encrypt_state, block_of, encrypt}
 use Rattle.bitslice.specs.declared.Planes.{Planes}
-use Rattle.bitslice.specs.Lanes.{lane_byte, Sum}
+use Rattle.bitslice.specs.Lanes.{lane_byte}
 use Rattle.bit_transpose.specs.Transposition.{column, Transposed}
-use Rattle.aes_rows.specs.Rows.{row_at, Each}
+use Rattle.aes_rows.specs.Rows.{row_at}
 use Rattle.aes_rows.specs.Blocks.{state}
 
 -- The blocks of a batch, and their bytes.
@@ -84,6 +84,11 @@ block_at l m = take 16 (drop (16 * m) l)
 pub record Unsliced (q l : List ℕ) : Type 0 where
   pub sized : length l ≡ 256
   pub each : (m : ℕ) → m < 16 → block_at l m ≡ block_of (state q (lane_of m))
+
+-- The bytes of the sixteen states, encrypted.
+pub record Enciphered (key q l : List ℕ) : Type 0 where
+  pub sized : length l ≡ 256
+  pub each : (m : ℕ) → m < 16 → block_at l m ≡ block_of (encrypt_state key (state q (lane_of m)))
 
 -- Sixteen blocks, encrypted.
 pub record Blocks (key : List ℕ) (f : ℕ → List ℕ) (l : List ℕ) : Type 0 where

@@ -9,19 +9,16 @@ use Rattle.aes_block.proofs.Contexts.{copy_step, copied, context}
 use Rattle.aes_block.proofs.expand.Goals as goal
 
 pub loop-i-init : goal.loop-i-init
-loop-i-init c = (omega arith, (c.start-ctx.ensures, refl))
+loop-i-init c = (c.start-ctx.ensures, refl)
 
 pub loop-i-preserved : goal.loop-i-preserved
 loop-i-preserved c =
     let at = c.loop-i in
     let v = at.invariant in
     let w = c.words-w in (
-      omega arith,
-      (
-        c.put_word.ensures.1,
-        ap (take (at.i + 1)) c.put_word.ensures.0
-            ∙ copy_step w.result at.ctx at.i (omega (arith, v.1.0.sized)) (omega (arith, w.ensures.0)) v.1.1,
-      ),
+      c.put_word.ensures.1,
+      ap (take (at.i + 1)) c.put_word.ensures.0
+          ∙ copy_step w.result at.ctx at.i (omega (arith, v.0.sized)) (omega (arith, w.ensures.0)) v.1,
     )
 
 pub returns : goal.returns
@@ -31,4 +28,4 @@ returns c =
     let w = c.words-w in
     let e : c.loop-i.i ≡ 60 = omega arith in
     context _ _ _ (λ i. omega (arith, c.shared_slice_known-1.given i)) c.requires
-    (copied key w.result c.loop-i.ctx _ c.requires v.1.0 (rw e at v.1.1) w.ensures.1 refl)
+    (copied key w.result c.loop-i.ctx _ c.requires v.0 (rw e at v.1) w.ensures.1 refl)

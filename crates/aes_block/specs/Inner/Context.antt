@@ -36,6 +36,13 @@ share2 s = word s (mul 3 s) (mul 2 s) s
 unfoldable pub share3 : ℕ → ℕ
 share3 s = word s s (mul 3 s) (mul 2 s)
 
+-- That of the byte in place i.
+abbrev pub share_of : ℕ → ℕ → ℕ
+share_of zero = share0
+share_of (suc zero) = share1
+share_of (suc (suc zero)) = share2
+share_of (suc (suc (suc i))) = share3
+
 -- The array is long enough, what stands in front of the table are words, and it holds the table's first n entries.
 pub record Table (n : ℕ) (ctx : List ℕ) : Type 0 where
   pub sized : length ctx ≡ size

@@ -2,7 +2,7 @@
 -- Inner: the context of a key, one array of words, as contracts of the code cite it. Other crates cite `Context`, `Ready` and
 -- `key_of`, and never a field.
 -- Assumes nothing.
-use Rattle.std.specs.Prelude.{◌≡◌, List, [], ◌∷◌, ◌++◌, ℕ, zero, suc, ◌+◌, ◌*◌, ◌-◌, ◌/◌, ◌%◌, ◌<◌, ◌≤◌, length, get_or, take, drop}
+use Rattle.std.specs.Prelude.{◌≡◌, List, [], ◌∷◌, ◌++◌, ℕ, zero, suc, ◌+◌, ◌*◌, ◌-◌, ◌/◌, ◌%◌, ◌<◌, length, get_or, take, drop}
 use Rattle.octets.specs.Octets.{bytes}
 use Rattle.aes.specs.Aes.{Nr, key_expansion, KeySize}
 use Rattle.aes_rows.specs.Blocks.{column, KeyPlanes}

@@ -10,16 +10,14 @@ use Rattle.ghash.proofs.absorb.Goals as goal
 
 pub loop-i-init : goal.loop-i-init
 unfolding absorb_blocks
-loop-i-init c = (omega arith, refl)
+loop-i-init c = refl
 
 pub loop-i-preserved : goal.loop-i-preserved
 loop-i-preserved c =
-    let a = c.args in (
-      omega arith,
-      absorb-step _ _ (a.a.now ++ a.b.now) _ _ _ _ _ c.loop-i.invariant.1 c.padded.ensures c.plus.ensures c.times-z.ensures,
-    )
+    let a = c.args in
+    absorb-step _ _ (a.a.now ++ a.b.now) _ _ _ _ _ c.loop-i.invariant c.padded.ensures c.plus.ensures c.times-z.ensures
 
 pub returns : goal.returns
 returns c =
     let a = c.args in
-    absorb-done _ _ a.a.now a.b.now _ _ (omega arith) c.loop-i.invariant.1
+    absorb-done _ _ a.a.now a.b.now _ _ (omega arith) c.loop-i.invariant

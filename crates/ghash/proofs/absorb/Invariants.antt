@@ -3,13 +3,9 @@
 -- Assumes nothing.
 use mathlib.Core.Path.{◌≡◌}
 use mathlib.Core.List.{◌++◌}
-use Prim.Native.Nat.{◌-◌, ◌≤◌}
 use Rattle.ghash.specs.Ghash.{absorb_blocks}
 use Rattle.ghash.specs.Inner.HashKey.{value_of, hash_key_of}
 use Rattle.ghash.proofs.absorb.Given as goal
 
 abbrev pub invariant-loop-i : goal.invariant-loop-i
-invariant-loop-i l = (l.i ≤ l.n) × (value_of l.z ≡ absorb_blocks (hash_key_of l.t) (value_of l.initial.z) (l.a ++ l.b) l.i)
-
-abbrev pub decreases-loop-i : goal.decreases-loop-i
-decreases-loop-i l = l.n - l.i
+invariant-loop-i l = value_of l.z ≡ absorb_blocks (hash_key_of l.t) (value_of l.initial.z) (l.a ++ l.b) l.i

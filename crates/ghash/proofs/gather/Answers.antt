@@ -11,15 +11,15 @@ use Rattle.ghash.proofs.Absorbing.{gather-step}
 use Rattle.ghash.proofs.gather.Goals as goal
 
 pub loop-k-init : goal.loop-k-init
-loop-k-init c = (omega arith, (refl, below_none _))
+loop-k-init c = (refl, below_none _)
 
 pub loop-k-preserved : goal.loop-k-preserved
 loop-k-preserved c =
     let a = c.args in
-    let v = c.loop-k.invariant.1 in
-    (omega arith, (simp length-set v.0, gather-step (a.a.now ++ a.b.now) c.loop-k.out a.i c.loop-k.k _ (omega arith) c.at.ensures v.1))
+    let v = c.loop-k.invariant in
+    (simp length-set v.0, gather-step (a.a.now ++ a.b.now) c.loop-k.out a.i c.loop-k.k _ (omega arith) c.at.ensures v.1)
 
 pub returns : goal.returns
 returns c =
     let e : c.loop-k.k ≡ 16 = omega arith in
-    number-ext 16 _ _ (rw e at c.loop-k.invariant.1.1)
+    number-ext 16 _ _ (rw e at c.loop-k.invariant.1)

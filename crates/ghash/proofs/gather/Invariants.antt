@@ -3,12 +3,9 @@
 -- Assumes nothing.
 use mathlib.Core.Path.{◌≡◌}
 use mathlib.Core.List.{◌++◌}
-use Prim.Native.Nat.{ℕ, ◌-◌, ◌≤◌, ◌<◌}
+use Prim.Native.Nat.{ℕ, ◌<◌}
 use lib.ListN.{length, get_or, drop}
 use Rattle.ghash.proofs.gather.Given as goal
 
 abbrev pub invariant-loop-k : goal.invariant-loop-k
-invariant-loop-k l = (l.k ≤ 16) × ((length l.out ≡ 16) × ((j : ℕ) → j < l.k → get_or l.out j 0 ≡ get_or (drop l.i (l.a ++ l.b)) j 0))
-
-abbrev pub decreases-loop-k : goal.decreases-loop-k
-decreases-loop-k l = 16 - l.k
+invariant-loop-k l = (length l.out ≡ 16) × ((j : ℕ) → j < l.k → get_or l.out j 0 ≡ get_or (drop l.i (l.a ++ l.b)) j 0)

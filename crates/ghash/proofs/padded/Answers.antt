@@ -10,6 +10,3 @@ pub returns-then-a-i-ge-BLOCK : goal.returns-then-a-i-ge-BLOCK
 returns-then-a-i-ge-BLOCK c =
     let a = c.args in
     c.load.ensures ∙ direct a.a.now a.b.now a.i (omega arith)
-
-pub returns : goal.returns
-returns c = cc

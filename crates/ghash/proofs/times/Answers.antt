@@ -1,14 +1,9 @@
 -- SPDX-License-Identifier: MIT
 -- `ghash::times` meets its contract: nine products of 32 bits are three of 64, and those the product of the blocks.
 -- Assumes nothing.
-use mathlib.Core.Path.{ap}
-use lib.ListN.{length}
 use Rattle.ghash.proofs.Steps.{multiplied}
 use borrow.Author.Rules.{rules}
 use Rattle.ghash.proofs.times.Goals as goal
-
-pub products-p-requires : goal.products-p-requires
-products-p-requires c = ap length c.requires.factors
 
 pub returns : goal.returns
 returns c =

@@ -1,22 +1,30 @@
 -- SPDX-License-Identifier: MIT
-use mathlib.Core.Path.{sym}
-use native.Mathlib.Omega.{arith}
-use borrow.Author.Rules.{rules}
+use Rattle.std.proofs.Common.{◌∙◌, sym, arith, length-take}
+use lib.Seq.{get_or-take}
 use Rattle.octets.proofs.Laws.{number-zero}
-use Rattle.octets.proofs.Loops.{number-done, number-next, number-below, number_fits}
+use Rattle.octets.proofs.Loops.{number-next, number-below, number_fits}
 use Rattle.octets.proofs.read_be.Goals as goal
 
-pub loop-i-init : goal.loop-i-init
-loop-i-init c = (search rules, sym (number-zero _), search rules)
+pub loop-d-init : goal.loop-d-init
+loop-d-init c = (sym (number-zero _), omega arith)
 
 pub overflow_mul-x : goal.overflow_mul-x
-overflow_mul-x c = omega (arith, number_fits _ 0 _ (omega arith) c.loop-i.invariant.2 (omega arith))
+overflow_mul-x c =
+    let d = c.loop-d.d-index in
+    record { fits = omega (arith, number_fits _ 0 d (omega (arith, length-take c.args.n c.args.b.now)) c.loop-d.invariant.1 (omega arith)) }
 
 pub overflow_add-x : goal.overflow_add-x
-overflow_add-x c = record { fits = number_fits _ _ _ (omega arith) c.loop-i.invariant.2 c.wide.ensures.1 }
+overflow_add-x c =
+    let d = c.loop-d.d-index in
+    let l = c.args.b.now in
+    let e = get_or-take c.args.n l d 0 (omega (arith, length-take c.args.n l)) in
+    record { fits = number_fits _ _ d (omega (arith, length-take c.args.n l)) c.loop-d.invariant.1 (omega (arith, c.from.ensures ∙ e, (c.type_inv.b d).fits)) }
 
-pub loop-i-preserved : goal.loop-i-preserved
-loop-i-preserved c = (search rules, number-next _ _ _ _ c.loop-i.invariant.1 c.wide.ensures.0, number-below _ _ _ c.loop-i.invariant.2 c.wide.ensures.1)
-
-pub returns : goal.returns
-returns c = number-done _ _ _ _ c.loop-i.invariant.0 (omega arith) c.loop-i.invariant.1 c.loop-i.invariant.2
+pub loop-d-preserved : goal.loop-d-preserved
+loop-d-preserved c =
+    let d = c.loop-d.d-index in
+    let l = c.args.b.now in
+    let e = get_or-take c.args.n l d 0 (omega (arith, length-take c.args.n l)) in (
+      number-next _ _ d l c.loop-d.invariant.0 (c.from.ensures ∙ e),
+      number-below _ _ d c.loop-d.invariant.1 (omega (arith, c.from.ensures ∙ e, (c.type_inv.b d).fits)),
+    )

@@ -1,7 +1,6 @@
 -- SPDX-License-Identifier: MIT
-use Rattle.octets.proofs.Loops.{bytes-eight}
+use Rattle.octets.proofs.Loops.{written-high}
 use Rattle.octets.proofs.write_be64.Goals as goal
 
 pub returns : goal.returns
-returns c =
-    bytes-eight _ _ c.args.out.now _ c.requires c.write_be32.ensures c.write_be32-2.ensures
+returns c = written-high 8 c.args.x _ _ _ c.to_be_bytes.ensures c.copy.ensures

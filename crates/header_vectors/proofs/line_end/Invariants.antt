@@ -1,9 +1,0 @@
--- SPDX-License-Identifier: MIT
-use Rattle.std.proofs.Common.{length, ◌-◌, ◌≤◌, ◌<◌}
-use Rattle.header_vectors.proofs.line_end.Given as goal
-
-abbrev pub invariant-loop-j : goal.invariant-loop-j
-invariant-loop-j l = (l.i ≤ l.j) × (l.j < length l.s)
-
-abbrev pub decreases-loop-j : goal.decreases-loop-j
-decreases-loop-j l = length l.s - l.j
