@@ -23,7 +23,14 @@ fn is_barred(role: Role, suite: u64) -> bool
 }
 
 // Adds a track: the lowest-numbered empty record holds what the suite derives from the base key for a name and a Key ID.
-pub fn add(store: &mut [u8], role: Role, name: &[u8], id: KeyId, suite: u64, base: &[u8]) -> Result<(), Refusal>
+pub fn add(
+    store: &mut [u8],
+    role: Role,
+    name: &[u8],
+    id: KeyId,
+    suite: u64,
+    base: &[u8],
+) -> Result<(), Refusal>
     ensures value { number_of result ≡ (add store.old role (track_id name.now id.0) suite base.now).number }
     ensures store_after { store.new ≡ (add store.old role (track_id name.now id.0) suite base.now).store }
 {

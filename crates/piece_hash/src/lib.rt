@@ -15,12 +15,15 @@ ghost use Rattle.piece_hash.specs.Held.{value_size, room_size, held_size, room_i
 
 use ghash::{Block, HashKey};
 use octets::{copy_at, read_be32};
-use sha256::{Sha256, Words256, room};
+use sha2_common::{Value, room};
+use sha256::{Sha256, Word256, Words256};
 
-// The bytes of a value, and of the value and the room.
+// The bytes of a value, of the room, and of both.
 const VALUE: usize = 32;
 
-pub const HELD: usize = 96;
+const ROOM: usize = 64;
+
+pub const HELD: usize = VALUE + ROOM;
 
 // The bytes of a block of GHASH.
 const BLOCK: usize = 16;
@@ -42,14 +45,14 @@ fn words(b: &[u8]) -> Words256
     ensures { words256 result ≡ words sha256 8 b.now }
 {
     Words256 {
-        a: read_be32(b),
-        b: read_be32(&b[4..]),
-        c: read_be32(&b[8..]),
-        d: read_be32(&b[12..]),
-        e: read_be32(&b[16..]),
-        f: read_be32(&b[20..]),
-        g: read_be32(&b[24..]),
-        h: read_be32(&b[28..]),
+        a: Word256(read_be32(b)),
+        b: Word256(read_be32(&b[4..])),
+        c: Word256(read_be32(&b[8..])),
+        d: Word256(read_be32(&b[12..])),
+        e: Word256(read_be32(&b[16..])),
+        f: Word256(read_be32(&b[20..])),
+        g: Word256(read_be32(&b[24..])),
+        h: Word256(read_be32(&b[28..])),
     }
 }
 
@@ -72,7 +75,7 @@ pub fn save(h: Sha256, b: &mut [u8])
     requires { length b.old ≡ held_size }
     ensures { b.new ≡ kept (state256 h) }
 {
-    let value = sha256::digest(h.value);
+    let value = h.value.digest();
     let waiting = h.waiting;
     put(b, &value, &waiting);
 }
@@ -103,7 +106,7 @@ pub fn save_block(y: Block, waiting: &[u8], b: &mut [u8])
 {
     let mut value = [0u8; VALUE];
     ghash::store(&mut value, y);
-    let w = room(waiting, b"");
+    let w = room::<ROOM>(waiting, b"");
     put(b, &value, &w);
 }
 
@@ -143,7 +146,7 @@ fn save_rest(y: Block, n: usize, c: &[u8], b: &mut [u8])
 {
     let at = VALUE + n;
     if n + c.len() < BLOCK {
-        let w = room(&b[VALUE..at], c);
+        let w = room::<ROOM>(&b[VALUE..at], c);
         let end = n + c.len();
         save_block(y, &w[..end], b);
         return;

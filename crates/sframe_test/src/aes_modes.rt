@@ -22,7 +22,7 @@ const LAST_COUNT: u32 = 0xffff_0000;
 // The context of a key by which batches are encrypted.
 fn context(key: &[u8]) -> aes_keys::Context
     requires { KeySize (length key.now) }
-    ensures { keys.Context key.now (number_of result) }
+    ensures { keys.Context key.now result }
 {
     let mut ctx = aes_keys::blank();
     aes_keys::expand(&mut ctx, key);
@@ -61,7 +61,12 @@ fn repeat(ctx: &aes_block::Context, n: u32, out: &mut [u8])
 }
 
 // AES encryption of a block n times over, on one context: for n large, the time of the block alone.
-pub fn sframe_test_aes_repeat(key: &[u8], block: &[u8], n: u32, out: &mut [u8]) -> Result<(), Refused>
+pub fn sframe_test_aes_repeat(
+    key: &[u8],
+    block: &[u8],
+    n: u32,
+    out: &mut [u8],
+) -> Result<(), Refused>
     ensures { Judged 0 (AesRepeatTakes key.now block.now out.old) (out.new ≡ repeated (encrypt key.now) n block.now) (out.new ≡ out.old) (number_of result) }
 {
     if !key_taken(key) {
@@ -80,7 +85,13 @@ pub fn sframe_test_aes_repeat(key: &[u8], block: &[u8], n: u32, out: &mut [u8]) 
 }
 
 // input XOR the key stream of a nonce of 12 bytes that starts at the block count.
-pub fn sframe_test_ctr(key: &[u8], nonce: &[u8], count: u32, input: &[u8], out: &mut [u8]) -> Result<(), Refused>
+pub fn sframe_test_ctr(
+    key: &[u8],
+    nonce: &[u8],
+    count: u32,
+    input: &[u8],
+    out: &mut [u8],
+) -> Result<(), Refused>
     ensures { Judged 0 (CtrTakes key.now nonce.now count input.now out.old) (out.new ≡ ctr key.now nonce.now count input.now ++ drop (length input.now) out.old) (out.new ≡ out.old) (number_of result) }
 {
     if !key_taken(key) {

@@ -17,7 +17,13 @@ use suites::Suite;
 const MAX_BASE: usize = 64;
 
 // Derivation for a known suite.
-fn derive_known(suite: Suite, base: &[u8], kid: u64, key: &mut [u8], salt: &mut [u8]) -> Result<(), Refused>
+fn derive_known(
+    suite: Suite,
+    base: &[u8],
+    kid: u64,
+    key: &mut [u8],
+    salt: &mut [u8],
+) -> Result<(), Refused>
     ensures { Judged 0 (DeriveTakes suite base.now key.old salt.old) ((key.new ≡ sframe_key suite base.now kid) × (salt.new ≡ sframe_salt suite base.now kid)) ((key.new ≡ key.old) × (salt.new ≡ salt.old)) (number_of result) }
 {
     if MAX_BASE < base.len() {
@@ -35,7 +41,13 @@ fn derive_known(suite: Suite, base: &[u8], kid: u64, key: &mut [u8], salt: &mut 
 }
 
 // Fills key and salt from a base key of at most 64 bytes, for a suite and a KID.
-pub fn sframe_test_derive(suite: u64, base: &[u8], kid: u64, key: &mut [u8], salt: &mut [u8]) -> Result<(), Refused>
+pub fn sframe_test_derive(
+    suite: u64,
+    base: &[u8],
+    kid: u64,
+    key: &mut [u8],
+    salt: &mut [u8],
+) -> Result<(), Refused>
     ensures { For (suite_of suite) (λ s. Judged 0 (DeriveTakes s base.now key.old salt.old) ((key.new ≡ sframe_key s base.now kid) × (salt.new ≡ sframe_salt s base.now kid)) ((key.new ≡ key.old) × (salt.new ≡ salt.old)) (number_of result)) ((number_of result ≡ 1) × (key.new ≡ key.old) × (salt.new ≡ salt.old)) }
 {
     match suites::sizes::find(suite) {

@@ -48,8 +48,7 @@ impl Word<64, 32> for Word256 {
     ghost initial_length = { words-of-256 };
 
     fn constant(t: usize) -> Word256 {
-        let k = K;
-        Word256(k[t])
+        Word256(K[t])
     }
 
     fn initial(i: usize) -> Word256 {

@@ -48,8 +48,7 @@ impl Word<128, 64> for Word512 {
     ghost initial_length = { words-of-512 };
 
     fn constant(t: usize) -> Word512 {
-        let k = K;
-        Word512(k[t])
+        Word512(K[t])
     }
 
     fn initial(i: usize) -> Word512 {

@@ -3,6 +3,7 @@ use Rattle.piece_hash.proofs.Steps.{kept-short, kept-long}
 use mathlib.Core.Path.{refl}
 use lib.ListN.{length-take}
 use native.Mathlib.Omega.{arith}
+use Rattle.sha2_common.specs.Sizes.{sha256}
 use Rattle.piece_hash.proofs.save_rest.Goals as goal
 
 pub slice_bounds-save_block-end : goal.slice_bounds-save_block-end
@@ -15,7 +16,7 @@ save_block-requires c =
 
 pub returns-then-n-c-lt-BLOCK : goal.returns-then-n-c-lt-BLOCK
 returns-then-n-c-lt-BLOCK c =
-    kept-short _ c.args.b.now c.args.c.now _ _ c.args.n _ _ (omega arith) (omega arith) refl refl (omega arith) c.room-w.ensures c.save_block.ensures
+    kept-short _ c.args.b.now c.args.c.now _ _ c.args.n _ _ (omega arith) (omega arith) refl refl (omega arith) (c.room-w.ensures sha256 refl) c.save_block.ensures
 
 pub returns : goal.returns
 returns c =
