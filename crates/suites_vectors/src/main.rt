@@ -132,13 +132,7 @@ fn derivation(alloc: Global, line: &[u8]) -> Result<bool, AllocError> {
     let base = bytes(alloc, line, 4)?;
     let key = bytes(alloc, line, 5)?;
     let salt = bytes(alloc, line, 6)?;
-    Ok(derives(
-        number(line, 1),
-        &base,
-        number(line, 2),
-        &key,
-        &salt,
-    ))
+    Ok(derives(number(line, 1), &base, number(line, 2), &key, &salt))
 }
 
 // Whether the nonce of a line comes out right.
