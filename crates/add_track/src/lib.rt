@@ -9,7 +9,7 @@ ghost use Rattle.add_track.specs.Add.{barred, add};
 
 use answers::{MAX_BASE_KEY, MIN_BASE_KEY, Refusal};
 use secure_objects::{KeyId, MAX_NAME};
-use suites::sizes::Aes128CtrHmacSha256Tag32;
+use suites::Suite;
 use track_record::Role;
 
 // Whether no track of that role and suite is added: the suite with tags of 4 bytes is for receiving alone.
@@ -17,13 +17,20 @@ fn is_barred(role: Role, suite: u64) -> bool
     ensures { result ≡ barred role suite }
 {
     match role {
-        Role::Sending => suite == Aes128CtrHmacSha256Tag32::NUMBER,
+        Role::Sending => suite == Suite::Ctr32.number(),
         Role::Receiving => false,
     }
 }
 
 // Adds a track: the lowest-numbered empty record holds what the suite derives from the base key for a name and a Key ID.
-pub fn add(store: &mut [u8], role: Role, name: &[u8], id: KeyId, suite: u64, base: &[u8]) -> Result<(), Refusal>
+pub fn add(
+    store: &mut [u8],
+    role: Role,
+    name: &[u8],
+    id: KeyId,
+    suite: u64,
+    base: &[u8],
+) -> Result<(), Refusal>
     ensures value { number_of result ≡ (add store.old role (track_id name.now id.0) suite base.now).number }
     ensures store_after { store.new ≡ (add store.old role (track_id name.now id.0) suite base.now).store }
 {

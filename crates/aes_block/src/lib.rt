@@ -14,6 +14,7 @@ ghost use Rattle.aes.specs.Aes.{KeySize, byte, block_size, add_round_key, mix_co
 ghost use Rattle.aes.specs.Inner.Schedule.{max_rounds};
 ghost use Rattle.aes_block.specs.Inner.Context.{table_at, entries, share0, share1, share2, share3, Table, Context, Ready, key_of, list_of};
 
+use crate::table::Rounds;
 use aes::schedule::WORDS;
 
 mod schedule;
@@ -66,35 +67,32 @@ pub fn expand(key: &[u8]) -> Context
 }
 
 // Word i of the key schedule.
-fn word_at(ctx: &Context, i: usize) -> u32
-    requires table { Table entries ctx.now }
-    requires i_lt_table_at { i < table_at }
-    ensures { result ≡ get_or ctx.now i 0 }
+fn word_at(t: Rounds, i: usize) -> u32
+    requires { i < table_at }
+    ensures { result ≡ get_or t.entry.ctx.now i 0 }
 {
-    (ctx[i] % 0x1_0000_0000) as u32
+    (t.ctx[i] % 0x1_0000_0000) as u32
 }
 
 // The words of round key r.
-fn round_key(ctx: &Context, r: usize) -> State
-    requires table { Table entries ctx.now }
-    requires r_le_max_rounds { r ≤ max_rounds }
-    ensures { (result.c0 ≡ get_or ctx.now (4 * r) 0) × (result.c1 ≡ get_or ctx.now (4 * r + 1) 0) × (result.c2 ≡ get_or ctx.now (4 * r + 2) 0) × (result.c3 ≡ get_or ctx.now (4 * r + 3) 0) }
+fn round_key(t: Rounds, r: usize) -> State
+    requires { r ≤ max_rounds }
+    ensures { (result.c0 ≡ get_or t.entry.ctx.now (4 * r) 0) × (result.c1 ≡ get_or t.entry.ctx.now (4 * r + 1) 0) × (result.c2 ≡ get_or t.entry.ctx.now (4 * r + 2) 0) × (result.c3 ≡ get_or t.entry.ctx.now (4 * r + 3) 0) }
 {
     State {
-        c0: word_at(ctx, 4 * r),
-        c1: word_at(ctx, 4 * r + 1),
-        c2: word_at(ctx, 4 * r + 2),
-        c3: word_at(ctx, 4 * r + 3),
+        c0: word_at(t, 4 * r),
+        c1: word_at(t, 4 * r + 1),
+        c2: word_at(t, 4 * r + 2),
+        c3: word_at(t, 4 * r + 3),
     }
 }
 
 // AddRoundKey of round r.
-fn add_round_key(ctx: &Context, s: State, r: usize) -> State
-    requires table { Table entries ctx.now }
-    requires r_le_max_rounds { r ≤ max_rounds }
-    ensures { list_of result ≡ add_round_key ctx.now r (list_of s) }
+fn add_round_key(t: Rounds, s: State, r: usize) -> State
+    requires { r ≤ max_rounds }
+    ensures { list_of result ≡ add_round_key t.entry.ctx.now r (list_of s) }
 {
-    let k = round_key(ctx, r);
+    let k = round_key(t, r);
     State {
         c0: s.c0 ^ k.c0,
         c1: s.c1 ^ k.c1,
@@ -105,30 +103,28 @@ fn add_round_key(ctx: &Context, s: State, r: usize) -> State
 
 // Adds the shares of the bytes of column a, which ShiftRows takes to four columns, and moves the columns on by one: the
 // column that was first is last.
-fn share(ctx: &Context, t: State, a: u32) -> State
-    requires { Table entries ctx.now }
-    ensures { (result.c0 ≡ bit_xor t.c1 (share3 (s_box (byte 3 a)))) × (result.c1 ≡ bit_xor t.c2 (share2 (s_box (byte 2 a)))) × (result.c2 ≡ bit_xor t.c3 (share1 (s_box (byte 1 a)))) × (result.c3 ≡ bit_xor t.c0 (share0 (s_box (byte 0 a)))) }
+fn share(t: Rounds, s: State, a: u32) -> State
+    ensures { (result.c0 ≡ bit_xor s.c1 (share3 (s_box (byte 3 a)))) × (result.c1 ≡ bit_xor s.c2 (share2 (s_box (byte 2 a)))) × (result.c2 ≡ bit_xor s.c3 (share1 (s_box (byte 1 a)))) × (result.c3 ≡ bit_xor s.c0 (share0 (s_box (byte 0 a)))) }
 {
     State {
-        c0: t.c1 ^ table::share(ctx, 3, a),
-        c1: t.c2 ^ table::share(ctx, 2, a),
-        c2: t.c3 ^ table::share(ctx, 1, a),
-        c3: t.c0 ^ table::share(ctx, 0, a),
+        c0: s.c1 ^ table::share(t, 3, a),
+        c1: s.c2 ^ table::share(t, 2, a),
+        c2: s.c3 ^ table::share(t, 1, a),
+        c3: s.c0 ^ table::share(t, 0, a),
     }
 }
 
 // Round r: SubBytes, ShiftRows, MixColumns and AddRoundKey. It starts from the round key, so that the sum does not wait
 // for it, and takes one column after the other, so that few values are held at a time.
-fn round(ctx: &Context, s: State, r: usize) -> State
-    requires table { Table entries ctx.now }
-    requires r_le_max_rounds { r ≤ max_rounds }
-    ensures { list_of result ≡ add_round_key ctx.now r (mix_columns (shift_rows (sub_bytes (list_of s)))) }
+fn round(t: Rounds, s: State, r: usize) -> State
+    requires { r ≤ max_rounds }
+    ensures { list_of result ≡ add_round_key t.entry.ctx.now r (mix_columns (shift_rows (sub_bytes (list_of s)))) }
 {
-    let k = round_key(ctx, r);
-    let a = share(ctx, k, s.c0);
-    let b = share(ctx, a, s.c1);
-    let c = share(ctx, b, s.c2);
-    share(ctx, c, s.c3)
+    let k = round_key(t, r);
+    let a = share(t, k, s.c0);
+    let b = share(t, a, s.c1);
+    let c = share(t, b, s.c2);
+    share(t, c, s.c3)
 }
 
 // The word of four bytes, each in its place.
@@ -140,14 +136,13 @@ fn join(p: u32, q: u32, r: u32, s: u32) -> u32
 }
 
 // SubBytes and ShiftRows.
-fn shift(ctx: &Context, s: State) -> State
-    requires { Table entries ctx.now }
+fn shift(t: Rounds, s: State) -> State
     ensures { list_of result ≡ shift_rows (sub_bytes (list_of s)) }
 {
-    let a = table::substituted(ctx, s.c0);
-    let b = table::substituted(ctx, s.c1);
-    let c = table::substituted(ctx, s.c2);
-    let d = table::substituted(ctx, s.c3);
+    let a = table::substituted(t, s.c0);
+    let b = table::substituted(t, s.c1);
+    let c = table::substituted(t, s.c2);
+    let d = table::substituted(t, s.c3);
     State {
         c0: join(a.c0, b.c1, c.c2, d.c3),
         c1: join(b.c0, c.c1, d.c2, a.c3),
@@ -162,11 +157,12 @@ pub fn encrypt(ctx: &Context, s: State) -> State
     ensures { list_of result ≡ encrypt_state (key_of ctx.now) (list_of s) }
 {
     let n = ctx[ROUNDS_AT] as usize;
-    let mut t = add_round_key(ctx, s, 0);
+    let rounds = Rounds { ctx };
+    let mut t = add_round_key(rounds, s, 0);
     for r in 1..n {
-        t = round(ctx, t, r);
+        t = round(rounds, t, r);
     }
-    add_round_key(ctx, shift(ctx, t), n)
+    add_round_key(rounds, shift(rounds, t), n)
 }
 
 // The state of a block of 16 bytes, and back.

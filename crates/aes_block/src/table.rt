@@ -15,6 +15,13 @@ pub fn start() -> Context
     aes_round_table::table()
 }
 
+// A context that holds the table.
+#[derive(Clone, Copy)]
+pub struct Rounds<'a> {
+    pub ctx: &'a Context,
+    ghost table: { Table entries ctx.now },
+}
+
 // The low 32 bits.
 pub fn low(x: u64) -> u32
     ensures { result ≡ x % 2 ^ 32 }
@@ -31,40 +38,36 @@ fn byte_of(i: u32, a: u32) -> u8
 }
 
 // The table's entry for x.
-fn entry(ctx: &Context, x: u8) -> u64
-    requires { Table entries ctx.now }
+fn entry(t: Rounds, x: u8) -> u64
     ensures { result ≡ entry_of x }
 {
-    ctx[TABLE_AT + x as usize]
+    t.ctx[TABLE_AT + x as usize]
 }
 
 // The share of byte i of a column in a column of the next state: an entry turned to the byte's place.
-pub fn share(ctx: &Context, i: u32, a: u32) -> u32
-    requires table { Table entries ctx.now }
-    requires i_lt_4 { i < 4 }
+pub fn share(t: Rounds, i: u32, a: u32) -> u32
+    requires { i < 4 }
     ensures { result ≡ share_of i (s_box (byte i a)) }
 {
-    low(entry(ctx, byte_of(i, a)) >> (8 * i))
+    low(entry(t, byte_of(i, a)) >> (8 * i))
 }
 
 // The S-box's entry for x, the second byte of the table's.
-fn sub(ctx: &Context, x: u8) -> u8
-    requires { Table entries ctx.now }
+fn sub(t: Rounds, x: u8) -> u8
     ensures { result ≡ s_box x }
 {
-    (entry(ctx, x) / 256 % 256) as u8
+    (entry(t, x) / 256 % 256) as u8
 }
 
 // SubBytes of a column, each byte alone in its place.
-pub fn substituted(ctx: &Context, a: u32) -> State
-    requires { Table entries ctx.now }
+pub fn substituted(t: Rounds, a: u32) -> State
     ensures c0_value { (result.c0 ≡ s_box (byte 0 a) * 0x1000000) × (result.c1 ≡ s_box (byte 1 a) * 0x10000) × (result.c2 ≡ s_box (byte 2 a) * 0x100) × (result.c3 ≡ s_box (byte 3 a)) }
     ensures c0_bound { (result.c0 ≤ 0xff000000) × (result.c1 ≤ 0xff0000) × (result.c2 ≤ 0xff00) × (result.c3 ≤ 0xff) }
 {
-    let p = sub(ctx, byte_of(0, a));
-    let q = sub(ctx, byte_of(1, a));
-    let r = sub(ctx, byte_of(2, a));
-    let s = sub(ctx, byte_of(3, a));
+    let p = sub(t, byte_of(0, a));
+    let q = sub(t, byte_of(1, a));
+    let r = sub(t, byte_of(2, a));
+    let s = sub(t, byte_of(3, a));
     State {
         c0: p as u32 * 0x100_0000,
         c1: q as u32 * 0x1_0000,

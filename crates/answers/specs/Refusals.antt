@@ -36,7 +36,7 @@ abbrev pub number_of : {A : Type 0} → Result A Refusal → ℕ
 number_of (Ok a) = done
 number_of (Err r) = refusal_number r
 
--- How many bytes a call says that it wrote: none where it is refused.
+-- What a call gives that is done, as how many bytes it wrote, a place or a count: 0 where it is refused.
 abbrev pub written_of : Result ℕ Refusal → ℕ
 written_of (Ok n) = n
 written_of (Err r) = 0

@@ -1,5 +1,5 @@
 // SPDX-License-Identifier: MIT
-// What the calls of the layer share: the numbers of their answers, and how long their inputs may be.
+// What the calls of the layer share: why they refuse, and how long their inputs may be.
 #![tactic(auto)]
 
 ghost use Rattle.std.specs.Prelude.{◌≡◌};
@@ -67,54 +67,8 @@ impl Refusal {
     }
 }
 
-// The numbers of the answers.
+// The number of a call that is done.
 pub const DONE: u32 = 0;
-
-pub const STORE_INVALID: u32 = 1;
-
-pub const SUITE_UNKNOWN: u32 = 2;
-
-pub const BASE_KEY_SIZE: u32 = 3;
-
-pub const KID_HELD: u32 = 4;
-
-pub const STORE_FULL: u32 = 5;
-
-pub const KID_MISSING: u32 = 6;
-
-pub const ROLE_REFUSED: u32 = 7;
-
-pub const COUNTER_SPENT: u32 = 8;
-
-pub const INPUT_TOO_LONG: u32 = 9;
-
-pub const HEADER_INVALID: u32 = 10;
-
-pub const FRAME_SHORT: u32 = 11;
-
-pub const ROOM_SHORT: u32 = 12;
-
-pub const TAG_DIFFERS: u32 = 13;
-
-pub const ALREADY_OPENED: u32 = 14;
-
-pub const COUNTER_TOO_OLD: u32 = 15;
-
-pub const STATE_MISMATCH: u32 = 16;
-
-pub const SENDING_BARRED: u32 = 17;
-
-pub const RATCHET_KID_INVALID: u32 = 20;
-
-pub const STEPS_TOO_MANY: u32 = 21;
-
-pub const GROUP_PART_TOO_LARGE: u32 = 22;
-
-pub const GROUP_KID_TOO_LONG: u32 = 23;
-
-pub const PAIR_NOT_ABOVE: u32 = 24;
-
-pub const OBJECT_TOO_LARGE: u32 = 25;
 
 // The shortest base key, and the longest.
 pub const MIN_BASE_KEY: usize = 16;
@@ -125,20 +79,6 @@ pub const MAX_BASE_KEY: usize = 64;
 pub const MAX_PLAINTEXT: usize = 32768;
 
 pub const MAX_METADATA: usize = 1024;
-
-// What a call that fills a room answers: its number, and how many bytes it wrote.
-#[derive(Clone, Copy)]
-pub struct Answer {
-    pub number: u32,
-    pub length: usize,
-}
-
-// The answer of a call that is refused.
-pub fn refused(number: u32) -> Answer
-    ensures { (result.number ≡ number) × (result.length ≡ 0) }
-{
-    Answer { number, length: 0 }
-}
 
 // Whether a plaintext of that length, or metadata of that length, is too long.
 pub fn too_long(plaintext: usize, metadata: usize) -> bool

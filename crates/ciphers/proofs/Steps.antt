@@ -14,7 +14,10 @@ use Rattle.octets.proofs.Laws.{part-rest}
 use Rattle.octets.proofs.Writing.{front-all}
 use Rattle.aes.specs.Aes.{KeySize}
 use Rattle.aes_keys.specs.Inner.Keys.{Context}
+use Rattle.std.specs.Prelude.{Option, None, Some, IfSome}
 use Rattle.gcm.specs.Counter.{ctr}
+use Rattle.gcm_batch.specs.Inner.Front.{Front}
+use Rattle.ciphers.specs.Inner.Fronts.{Fronted, count_of}
 use Rattle.gcm.specs.Gcm.{gcm_tag}
 use Rattle.suites.specs.declared.sizes.Suite.{Suite}
 use Rattle.suites.specs.declared.sizes.Mode.TheVariants.{CtrHmac, Gcm}
@@ -35,6 +38,15 @@ module _ (s : Suite) (k : List ℕ) (n : ℕ) (e : n ≡ cipher_key_size s) wher
 
   pub cipher-context : (ctx : List ℕ) → Context (take (n - 0) k) ctx → Context (cipher_key s k) ctx
   cipher-context ctx h = rw (sub-zero, e) at h
+
+-- what the front of a suite says
+pub fronted-front : (s : Suite) (k n : List ℕ) (f : Option (List ℕ)) → Fronted s k n f → IfSome f (λ x. Front k n x)
+fronted-front s k n None h = tt
+fronted-front s k n (Some f) h = h.1
+
+pub fronted-count : (s : Suite) (k n : List ℕ) (f : Option (List ℕ)) → Fronted s k n f → count_of f ≡ first_count (mode_of s)
+fronted-count s k n None h = ap first_count (sym h)
+fronted-count s k n (Some f) h = ap first_count (sym h.0)
 
 -- the tag of a suite by its mode
 pub tag-ctr : (s : Suite) (nt : ℕ) (k n a c t : List ℕ) → mode_of s ≡ CtrHmac → nt ≡ Nt s → take nt t ≡ ctr_tag nt k n a c → take (Nt s) t ≡ tag s k n a c

@@ -2,26 +2,26 @@
 // Encryption and decryption, one way for all five suites: RFC 9605, sections 4.4.3, 4.4.4 and 4.5.
 #![tactic(auto)]
 
-ghost use Rattle.std.specs.Prelude.{◌≡◌, ◌++◌, ◌+◌, ◌-◌, ◌≤◌, length, take, drop};
+ghost use Rattle.std.specs.Prelude.{◌≡◌, ◌++◌, ◌+◌, ◌-◌, ◌≤◌, length, take, drop, IfSome};
 ghost use Rattle.aes_keys.specs.Inner.Keys.{size, Context, Ready, key_of};
 ghost use Rattle.gcm.specs.Counter.{ctr};
 ghost use Rattle.gcm.specs.Gcm.{gcm_tag};
 ghost use Rattle.gcm.specs.Inner.Limits.{max_bytes};
-ghost use Rattle.gcm_batch.specs.Inner.Front.{Front, front_size};
-ghost use Rattle.suites.specs.Suites.{Nk, Nn, Nt, mode_of};
+ghost use Rattle.gcm_batch.specs.Inner.Front.{Front};
+ghost use Rattle.suites.specs.Suites.{Nk, Nn, Nt};
 ghost use Rattle.suites.specs.Inner.Sizes.{max_nt};
-ghost use Rattle.ciphers.specs.Inner.Fronts.{Fronted};
+ghost use Rattle.ciphers.specs.Inner.Fronts.{Fronted, count_of};
 ghost use Rattle.suites.specs.declared.sizes.Suite.TheVariants.{Ctr80};
-ghost use Rattle.aead.specs.Aead.{cipher_key, first_count, ctr_tag, tag, encrypt, decrypt, is_plain, room_after};
+ghost use Rattle.aead.specs.Aead.{cipher_key, ctr_tag, tag, encrypt, decrypt, is_plain, room_after};
 
 use hmac_tag::mac;
-use suites::sizes::{Aes128CtrHmacSha256Tag80, Aes128GcmSha256, Mode, Suite};
+use suites::sizes::{Mode, Suite};
 
 // The bytes of the longest tag, which is that of Galois/counter mode.
-const MAX_NT: usize = Aes128GcmSha256::NT;
+const MAX_NT: usize = Suite::MAX_NT;
 
 // The bytes of the key that encrypt in counter mode: by the contract of `cipher_key_size`, the same in its three suites.
-const NKA: usize = Aes128CtrHmacSha256Tag80::NKA;
+const NKA: usize = Suite::NKA;
 
 // Fills ctx with the AES context of a suite's key.
 pub fn context(ctx: &mut [u64], suite: Suite, key: &[u8])
@@ -33,13 +33,13 @@ pub fn context(ctx: &mut [u64], suite: Suite, key: &[u8])
 }
 
 // With Galois/counter mode the front of key and nonce; counter mode needs none.
-fn front(suite: Suite, ctx: &aes_keys::Context, nonce: &[u8]) -> gcm_batch::Front
+fn front(suite: Suite, ctx: &aes_keys::Context, nonce: &[u8]) -> Option<gcm_batch::Front>
     requires { (Ready ctx.now) × (length nonce.now ≡ Nn) }
-    ensures { Fronted suite (key_of ctx.now) nonce.now result × (length result ≡ front_size) }
+    ensures { Fronted suite (key_of ctx.now) nonce.now result }
 {
     match suite.mode() {
-        Mode::CtrHmac => [0u8; gcm_batch::FRONT],
-        Mode::Gcm => gcm_batch::front(ctx, nonce),
+        Mode::CtrHmac => None,
+        Mode::Gcm => Some(gcm_batch::front(ctx, nonce)),
     }
 }
 
@@ -87,7 +87,7 @@ fn tag_of(
     ctx: &aes_keys::Context,
     key: &[u8],
     nonce: &[u8],
-    f: &[u8],
+    f: &Option<gcm_batch::Front>,
     header: &[u8],
     metadata: &[u8],
     ciphertext: &[u8],
@@ -97,49 +97,47 @@ fn tag_of(
     requires header_len_bound { (length header.now ≤ max_bytes) × (length metadata.now ≤ max_bytes) × (length ciphertext.now ≤ max_bytes) }
     ensures { (take (Nt suite) result ≡ tag suite key.now nonce.now (header.now ++ metadata.now) ciphertext.now) × (length result ≡ max_nt) }
 {
-    match suite.mode() {
-        Mode::CtrHmac => {
+    match f {
+        None => {
             let nt = suite.tag_size();
             ctr_tag(nt, key, nonce, header, metadata, ciphertext)
         }
-        Mode::Gcm => gcm_tag(ctx, nonce, f, header, metadata, ciphertext),
+        Some(front) => gcm_tag(ctx, nonce, front, header, metadata, ciphertext),
     }
 }
 
 // Writes the ciphertext of the input.
 fn cipher(
-    suite: Suite,
     ctx: &aes_keys::Context,
     nonce: &[u8],
-    f: &[u8],
+    f: &Option<gcm_batch::Front>,
     input: &[u8],
     out: &mut [u8],
 )
     requires ready { (Ready ctx.now) × (length nonce.now ≡ Nn) × (length input.now ≤ max_bytes) × (length out.old ≡ length input.now) }
-    requires fronted { Fronted suite (key_of ctx.now) nonce.now f.now }
-    ensures { out.new ≡ ctr (key_of ctx.now) nonce.now (first_count (mode_of suite)) input.now }
+    requires fronted { IfSome f.now (λ x. Front (key_of ctx.now) nonce.now x) }
+    ensures { out.new ≡ ctr (key_of ctx.now) nonce.now (count_of f.now) input.now }
 {
-    match suite.mode() {
-        Mode::CtrHmac => gcm_batch::counter::apply(ctx, nonce, 0, input, out),
-        Mode::Gcm => gcm_batch::apply(ctx, nonce, f, input, out),
+    match f {
+        None => gcm_batch::counter::apply(ctx, nonce, 0, input, out),
+        Some(front) => gcm_batch::apply(ctx, nonce, front, input, out),
     }
 }
 
 // Writes the ciphertext of the input to the front of out.
 fn apply(
-    suite: Suite,
     ctx: &aes_keys::Context,
     nonce: &[u8],
-    f: &[u8],
+    f: &Option<gcm_batch::Front>,
     input: &[u8],
     out: &mut [u8],
 )
     requires ready { (Ready ctx.now) × (length nonce.now ≡ Nn) × (length input.now ≤ max_bytes) × (length input.now ≤ length out.old) }
-    requires fronted { Fronted suite (key_of ctx.now) nonce.now f.now }
-    ensures { out.new ≡ ctr (key_of ctx.now) nonce.now (first_count (mode_of suite)) input.now ++ drop (length input.now) out.old }
+    requires fronted { IfSome f.now (λ x. Front (key_of ctx.now) nonce.now x) }
+    ensures { out.new ≡ ctr (key_of ctx.now) nonce.now (count_of f.now) input.now ++ drop (length input.now) out.old }
 {
     let n = input.len();
-    cipher(suite, ctx, nonce, f, input, &mut out[0..n]);
+    cipher(ctx, nonce, f, input, &mut out[0..n]);
 }
 
 // Fills out with the ciphertext of the plaintext and its tag. The associated data comes in two parts.
@@ -162,7 +160,7 @@ pub fn encrypt(
     let mut ctx = aes_keys::blank();
     context(&mut ctx, suite, key);
     let f = front(suite, &ctx, nonce);
-    apply(suite, &ctx, nonce, &f, plaintext, out);
+    apply(&ctx, nonce, &f, plaintext, out);
     let t = tag_of(suite, &ctx, key, nonce, &f, header, metadata, &out[0..n]);
     octets::copy_at(out, n, &t[0..nt]);
 }
@@ -193,6 +191,6 @@ pub fn decrypt(
     if !octets::equal(&sealed[n..], &t[0..nt]) {
         return false;
     }
-    apply(suite, &ctx, nonce, &f, &sealed[0..n], out);
+    apply(&ctx, nonce, &f, &sealed[0..n], out);
     true
 }

@@ -20,9 +20,6 @@ use gcm::TAG;
 
 pub mod counter;
 
-// The bytes of a front.
-pub const FRONT: usize = aes_batch::BYTES;
-
 // The front of a key and a nonce: the blocks of the hash key, the tag's mask and the first data, encrypted in one batch.
 pub type Front = aes_batch::Batch;
 

@@ -1,8 +1,9 @@
 -- SPDX-License-Identifier: MIT
 -- The suites by number. Assumes nothing.
 use Rattle.std.specs.Prelude.{Option, Some, None}
-use mathlib.Core.Path.{◌≡◌, refl}
-use mathlib.Core.Bool.{true, false, false≢true}
+use Rattle.std.specs.Option.{is_some}
+use mathlib.Core.Path.{◌≡◌, refl, sym, ◌∙◌}
+use mathlib.Core.Bool.{Bool, true, false, false≢true}
 use Prim.Native.Nat.{ℕ, ◌<◌, ◌≤◌}
 use native.Mathlib.Omega.{arith}
 use Rattle.suites.specs.Suites.{suite_of, Nk, Nt}
@@ -31,6 +32,14 @@ suite-named n s e = rw e
 pub suite-unnamed : (n : ℕ) → suite_of n ≡ None → is_suite n ≡ false
 unfolding is_suite
 suite-unnamed n e = rw e
+
+pub suite-known : (n : ℕ) (f : Option Suite) (r : Bool) → f ≡ suite_of n → r ≡ is_some f → r ≡ is_suite n
+unfolding is_suite
+suite-known n f r e q = q ∙ by f e
+  where
+    by : (g : Option Suite) → g ≡ suite_of n → is_some g ≡ with_suite false (λ s. true) (suite_of n)
+    by None w = rw (sym w)
+    by (Some s) w = rw (sym w)
 
 pub key-named : (n : ℕ) (s : Suite) → suite_of n ≡ Some s → key_size n ≡ Nk s
 unfolding key_size

@@ -47,19 +47,12 @@ any-done d i b h k p q =
 
 -- ---- a block of them
 
-module _ (d i from : ℕ) (l : List ℕ) (h : from + block ≤ length l) where
-  rest-length : block ≤ length (drop from l)
-  rest-length = simp length-drop (omega arith)
-
-  pub block-next : i < block → (d ≡ 0 → replicate i 0 ≡ take i (drop from l)) → bit_or d (get_or l (from + i) 0) ≡ 0 → replicate (i + 1) 0 ≡ take (i + 1) (drop from l)
-  block-next k p e = let r = rest-length in any_next d i (drop from l) (omega arith) p (ap (bit_or d) (get_or-drop from l i 0) ∙ e)
-
-  pub block-before : i < block → (replicate i 0 ≡ take i (drop from l) → d ≡ 0) → replicate (i + 1) 0 ≡ take (i + 1) (drop from l) → bit_or d (get_or l (from + i) 0) ≡ 0
-  block-before k q e = let r = rest-length in ap (bit_or d) (sym (get_or-drop from l i 0)) ∙ any-before d i (drop from l) (omega arith) q e
-
-  pub block-done : i ≡ block → (d ≡ 0 → replicate i 0 ≡ take i (drop from l)) → (replicate i 0 ≡ take i (drop from l) → d ≡ 0) → eqb d 0 ≡ zero_in from block l
-  unfolding zero_in
-  block-done e p q = same_count d (replicate block 0) (take block (drop from l)) (λ z. rw e at (p z)) (λ z. q (rw e z))
+pub block-told : (from : ℕ) (l : List ℕ) (r : Bool) → from + block ≤ length l → r ≡ same (replicate (length (take (from + block - from) (drop from l))) 0) (take (from + block - from) (drop from l)) → r ≡ zero_in from block l
+unfolding zero_in
+block-told from l r h e =
+    let n : from + block - from ≡ block = omega arith in
+    let k : length (take block (drop from l)) ≡ block = length-take-le block (drop from l) (simp length-drop (omega arith)) in
+    rw (n, k) at e
 
 -- ---- a number of them
 

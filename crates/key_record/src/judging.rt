@@ -10,7 +10,7 @@ use crate::{
     COUNTER, EMPTY, HIGHEST, KEY, LAST, LAYOUT_VERSION, MARK, MASK, RECEIVING, RETIRED, SALT,
     SENDING, SPENT, SUITE, VERSION,
 };
-use suites::sizes::Aes128GcmSha256;
+use suites::Suite;
 use window::Window;
 
 // The room for a key is tested for zeros in blocks of so many bytes: fixed lengths compile to few instructions.
@@ -20,10 +20,7 @@ const BLOCK: usize = 16;
 fn is_suite(n: u8) -> bool
     ensures { result ≡ is_suite n }
 {
-    match suites::sizes::find(n as u64) {
-        Some(_) => true,
-        None => false,
-    }
+    suites::sizes::find(n as u64).is_some()
 }
 
 // Whether every byte is zero.
@@ -31,10 +28,8 @@ fn is_zero(b: &[u8]) -> bool
     ensures { result ≡ same (replicate (length b.now) 0) b.now }
 {
     let mut any: u8 = 0;
-    let mut i = 0;
-    while i < b.len() {
-        any = any | b[i];
-        i += 1;
+    for x in b {
+        any |= *x;
     }
     any == 0
 }
@@ -44,13 +39,7 @@ fn zero_block(row: &[u8], from: usize) -> bool
     requires { from + block ≤ length row.now }
     ensures { result ≡ zero_in from block row.now }
 {
-    let mut any: u8 = 0;
-    let mut i = 0;
-    while i < BLOCK {
-        any = any | row[from + i];
-        i += 1;
-    }
-    any == 0
+    is_zero(&row[from..from + BLOCK])
 }
 
 // Whether salt and key are wiped, as a retired record's are.
@@ -79,13 +68,14 @@ fn key_ends(row: &[u8], suite: u8) -> bool
     ensures { result ≡ zero_in (key_at + key_size suite) (highest_at - (key_at + key_size suite)) row.now }
 {
     let number = suite as u64;
-    if number < Aes128GcmSha256::NUMBER {
+    let short = Suite::Gcm128.number();
+    if number < short {
         return true;
     }
     if !zero_block(row, KEY + 2 * BLOCK) {
         return false;
     }
-    if number != Aes128GcmSha256::NUMBER {
+    if number != short {
         return true;
     }
     zero_block(row, KEY + BLOCK)

@@ -28,7 +28,7 @@ const HIGHEST: usize = 80;
 
 const MASK: usize = 88;
 
-// The mark of a record.
+// The mark of a record: the byte in the store that tells its kind, by the layout (specs/Layout.antt).
 const EMPTY: u8 = 0;
 
 const SENDING: u8 = 1;
@@ -44,14 +44,14 @@ const LAYOUT_VERSION: u8 = 1;
 const LAST: u64 = 0xffff_ffff_ffff_ffff;
 
 // What a key is added for.
-#[derive(Clone, Copy)]
+#[derive(Clone, Copy, PartialEq, Eq)]
 pub enum Role {
     Sending,
     Receiving,
 }
 
 // What a record is.
-#[derive(Clone, Copy)]
+#[derive(Clone, Copy, PartialEq, Eq)]
 pub enum Kind {
     Empty,
     Sender,

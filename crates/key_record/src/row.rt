@@ -24,17 +24,12 @@ pub fn kind_of(row: &[u8]) -> Kind
     requires { length row.now ≡ record_size }
     ensures { result ≡ kind_of (decode row.now) }
 {
-    let mark = row[MARK];
-    if mark == SENDING {
-        return Kind::Sender;
+    match row[MARK] {
+        SENDING => Kind::Sender,
+        RECEIVING => Kind::Receiver,
+        RETIRED => Kind::Retired,
+        _ => Kind::Empty,
     }
-    if mark == RECEIVING {
-        return Kind::Receiver;
-    }
-    if mark == RETIRED {
-        return Kind::Retired;
-    }
-    Kind::Empty
 }
 
 // Whether a record is empty.

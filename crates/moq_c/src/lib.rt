@@ -5,6 +5,7 @@
 #![tactic(auto)]
 
 ghost use Rattle.std.specs.Prelude.{◌≡◌};
+ghost use Rattle.answers.specs.Refusals.{number_of, written_of};
 ghost use Rattle.track_record.specs.Record.{track_id};
 ghost use Rattle.track_record.specs.declared.Role.TheVariants.{Sending, Receiving};
 ghost use Rattle.tracks.specs.Calls.{make, remove};
@@ -12,15 +13,43 @@ ghost use Rattle.add_track.specs.Add.{add};
 ghost use Rattle.seal_object.specs.Seal.{seal};
 ghost use Rattle.open_object.specs.Open.{opening};
 
+use answers::Refusal;
 use secure_objects::{GroupId, KeyId, ObjectId};
 use track_record::Role;
+
+// The number of what a call answers: 0 where it is done.
+fn number(answer: Result<(), Refusal>) -> u32
+    ensures { result ≡ number_of answer }
+{
+    match answer {
+        Ok(()) => 0,
+        Err(refusal) => refusal.number(),
+    }
+}
+
+// The number of what a call answers that fills a room, and the length that it wrote: 0 where it is refused.
+fn hand_over(answer: Result<usize, Refusal>, length: &mut usize) -> u32
+    ensures value { result ≡ number_of answer }
+    ensures length_after { length.new ≡ written_of answer }
+{
+    match answer {
+        Ok(written) => {
+            *length = written;
+            0
+        }
+        Err(refusal) => {
+            *length = 0;
+            refusal.number()
+        }
+    }
+}
 
 #[unsafe(no_mangle)]
 pub extern "C" fn moq_make(store: &mut [u8]) -> u32
     ensures value { result ≡ (make store.old).number }
     ensures store_after { store.new ≡ (make store.old).store }
 {
-    tracks::make(store)
+    number(tracks::make(store))
 }
 
 #[unsafe(no_mangle)]
@@ -34,7 +63,7 @@ pub extern "C" fn moq_add_sending(
     ensures value { result ≡ (add store.old Sending (track_id name.now id) suite base.now).number }
     ensures store_after { store.new ≡ (add store.old Sending (track_id name.now id) suite base.now).store }
 {
-    add_track::add(store, Role::Sending, name, KeyId(id), suite, base)
+    number(add_track::add(store, Role::Sending, name, KeyId(id), suite, base))
 }
 
 #[unsafe(no_mangle)]
@@ -48,7 +77,7 @@ pub extern "C" fn moq_add_receiving(
     ensures value { result ≡ (add store.old Receiving (track_id name.now id) suite base.now).number }
     ensures store_after { store.new ≡ (add store.old Receiving (track_id name.now id) suite base.now).store }
 {
-    add_track::add(store, Role::Receiving, name, KeyId(id), suite, base)
+    number(add_track::add(store, Role::Receiving, name, KeyId(id), suite, base))
 }
 
 #[unsafe(no_mangle)]
@@ -56,7 +85,7 @@ pub extern "C" fn moq_remove(store: &mut [u8], name: &[u8], id: u64) -> u32
     ensures value { result ≡ (remove store.old (track_id name.now id)).number }
     ensures store_after { store.new ≡ (remove store.old (track_id name.now id)).store }
 {
-    tracks::remove(store, name, KeyId(id))
+    number(tracks::remove(store, name, KeyId(id)))
 }
 
 #[unsafe(no_mangle)]
@@ -86,8 +115,7 @@ pub extern "C" fn moq_seal(
         plaintext,
         out,
     );
-    *length = answer.length;
-    answer.number
+    hand_over(answer, length)
 }
 
 #[unsafe(no_mangle)]
@@ -116,6 +144,5 @@ pub extern "C" fn moq_open(
         sealed,
         out,
     );
-    *length = answer.length;
-    answer.number
+    hand_over(answer, length)
 }

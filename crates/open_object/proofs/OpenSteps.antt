@@ -4,7 +4,7 @@ use Rattle.std.specs.Prelude.{Option, Some, None}
 use mathlib.Core.Path.{◌≡◌, refl, sym, ◌∙◌, ap, ap₂}
 use mathlib.Core.Bool.{Bool, true, false, not, false≢true}
 use mathlib.Core.List.{List, [], ◌++◌}
-use Prim.Native.Nat.{ℕ, zero, suc, ◌+◌, ◌-◌, ◌<◌, ◌≤◌}
+use Prim.Native.Nat.{ℕ, zero, suc, ◌-◌, ◌<◌, ◌≤◌}
 use native.Mathlib.Omega.{arith}
 use lib.Dec.{leb, ltb}
 use lib.ListN.{length, get_or, drop}
@@ -20,6 +20,7 @@ use Rattle.aead.specs.Aead.{Decrypted, plain, differs, is_plain, room_after}
 use Rattle.suites.specs.declared.sizes.Suite.{Suite}
 use Rattle.secure_objects.specs.Objects.{name_most, object_ceiling, unsecured}
 use Rattle.secure_objects.proofs.Laws.{unsecured-only, secured-length}
+use Rattle.track_record.specs.declared.Kind.TheVariants.{Sender, Receiver, Retired}
 use Rattle.track_record.specs.Layout.{decode}
 use Rattle.track_record.specs.Record.{TrackId, TrackRecord, empty, track, is_empty, receives, is_receiving, tag_of, salt_of, key_of}
 use Rattle.track_record.specs.Inner.Rows.{suite_in}
@@ -236,3 +237,9 @@ module _ (s : List ℕ) (id : TrackId) (group object : ℕ) (properties sealed r
             (g.0.0 ∙ q.0 ∙ sym (ap (λ (z : Outcome). z.number) o), g.0.1 ∙ q.1 ∙ sym (ap (λ (z : Outcome). z.written) o)),
             g.1 ∙ q.2 ∙ sym (ap (λ (z : Outcome). z.room) o),
           )
+
+-- a kind that is another
+pub receives-else : (k : Kind) → (k ≡ Receiver → ⊥) → false ≡ receives k
+receives-else Sender d = refl
+receives-else Receiver d = absurd (d refl)
+receives-else Retired d = refl

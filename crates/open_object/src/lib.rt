@@ -23,7 +23,13 @@ fn opens(kind: Kind) -> bool
 }
 
 // Why a held record refuses to open, by the first cause that applies before the tag is looked at.
-fn judge(row: &[u8], object: ObjectId, properties: usize, sealed: usize, room: usize) -> Result<(), Refusal>
+fn judge(
+    row: &[u8],
+    object: ObjectId,
+    properties: usize,
+    sealed: usize,
+    room: usize,
+) -> Result<(), Refusal>
     requires { (length row.now ≡ record_size) × (is_empty (decode row.now) ≡ false) }
     ensures { number_of result ≡ first (open_causes true (decode row.now) object.0 properties sealed room (plain [])) }
 {

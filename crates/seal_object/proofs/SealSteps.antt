@@ -7,9 +7,9 @@ use mathlib.Core.List.{List, [], ◌++◌}
 use Prim.Native.Nat.{ℕ, ◌+◌, ◌-◌, ◌<◌, ◌≤◌}
 use native.Mathlib.Nat.{sub-zero}
 use native.Mathlib.Omega.{arith}
-use lib.Dec.{leb, ltb}
+use lib.Dec.{ltb}
 use lib.ListN.{length, get_or, set, take, drop, length-take}
-use borrow.Author.Tests.{le-leb, lt-leb, leb-false, lt-ltb, le-ltb, ltb-false, not-true, not-false}
+use borrow.Author.Tests.{le-leb, lt-leb, leb-false, lt-ltb, le-ltb, ltb-false, not-false}
 use Rattle.octets.specs.Octets.{Octets}
 use Rattle.header.specs.Answers.{room_short}
 use Rattle.answers.specs.Answers.{done, store_invalid, kid_missing, role_refused, object_too_large, pair_not_above, input_too_long, first, Outcome, settled}
@@ -21,6 +21,7 @@ use Rattle.suites.specs.declared.sizes.Suite.{Suite}
 use Rattle.suites.proofs.Laws.{Nt-most}
 use Rattle.secure_objects.specs.Objects.{name_most, object_ceiling, counter, secured}
 use Rattle.secure_objects.proofs.Laws.{secured-length}
+use Rattle.track_record.specs.declared.Kind.TheVariants.{Sender, Receiver, Retired}
 use Rattle.track_record.specs.Layout.{decode}
 use Rattle.track_record.specs.Record.{TrackId, TrackRecord, empty, track, is_empty, sends, is_sending, tag_of, floor_of, salt_of, key_of, advanced}
 use Rattle.track_record.specs.Inner.Rows.{suite_in}
@@ -207,3 +208,9 @@ module _ (s : List ℕ) (id : TrackId) (group object : ℕ) (properties plaintex
               ∙ ap (λ (h : TrackRecord). encode_all (put id (advanced (counter group object) h) (records s))) (sym q.1)
               in
               ((u.0.0, b ∙ u.0.1), (g' ∙ u.1.0, d' ∙ u.1.1))
+
+-- a kind that is another
+pub sends-else : (k : Kind) → (k ≡ Sender → ⊥) → false ≡ sends k
+sends-else Sender d = absurd (d refl)
+sends-else Receiver d = refl
+sends-else Retired d = refl

@@ -7,6 +7,8 @@
 ghost use Rattle.std.specs.Prelude.{◌≡◌};
 ghost use Rattle.header.specs.Header.{write_header, read_header};
 ghost use Rattle.header.specs.Answers.{written_number, written_length, read_number, read_kid, read_ctr, read_length};
+ghost use Rattle.std.specs.Result.{result_unwrap_or};
+ghost use Rattle.answers.specs.Refusals.{number_of};
 ghost use Rattle.store_calls.specs.Calls.{make, remove, find, found};
 ghost use Rattle.store.specs.Sframe.{sframe};
 ghost use Rattle.key_record.specs.declared.Role.TheVariants.{Sending, Receiving};
@@ -21,28 +23,38 @@ ghost use Rattle.ratchet.specs.Calls.{walk, kid_number, kid_given};
 ghost use Rattle.group.specs.Group.{context_in, index_in, epoch_in, given, pack_number, packed, unpack_number};
 ghost use Rattle.change_epoch.specs.Epoch.{change_epoch};
 
-use answers::{DONE, HEADER_INVALID, ROOM_SHORT};
-use header::{Ctr, Header, Kid};
+use answers::{DONE, Refusal};
+use header::{Ctr, Kid};
 use key_record::Role;
 
 // Where a caller that names no place is taken to believe the record: at the front of the store.
 const FRONT: usize = 0;
 
-// Hands over what writing a header answers.
-fn hand_over(written: Option<usize>, length: &mut usize) -> u32
+// The number of an answer.
+fn number<T: Copy>(answer: Result<T, Refusal>) -> u32
+    ensures { result ≡ number_of answer }
+{
+    match answer {
+        Ok(_) => DONE,
+        Err(refusal) => refusal.number(),
+    }
+}
+
+// Hands over what a call gives, or what stands for nothing where it is refused.
+fn hand_over<T: Copy>(answer: Result<T, Refusal>, nothing: T, to: &mut T) -> u32
+    ensures value { result ≡ number_of answer }
+    ensures after { to.new ≡ result_unwrap_or answer nothing }
+{
+    *to = answer.unwrap_or(nothing);
+    number(answer)
+}
+
+// Hands over the length of a header that was written.
+fn hand_over_length(written: Option<usize>, length: &mut usize) -> u32
     ensures value { result ≡ written_number written }
     ensures length_after { length.new ≡ written_length written }
 {
-    match written {
-        Some(n) => {
-            *length = n;
-            DONE
-        }
-        None => {
-            *length = 0;
-            ROOM_SHORT
-        }
-    }
+    hand_over(written.ok_or(Refusal::RoomShort), 0, length)
 }
 
 #[unsafe(no_mangle)]
@@ -52,7 +64,7 @@ pub extern "C" fn sframe_write_header(kid: u64, ctr: u64, out: &mut [u8], length
     ensures out_after { out.new ≡ (write_header kid ctr 0 out.old).room }
 {
     let written = header::write_header(Kid(kid), Ctr(ctr), out);
-    hand_over(written, length)
+    hand_over_length(written, length)
 }
 
 #[unsafe(no_mangle)]
@@ -68,7 +80,7 @@ pub extern "C" fn sframe_write_header_at(
     ensures out_after { out.new ≡ (write_header kid ctr offset out.old).room }
 {
     let written = header::write_header_at(Kid(kid), Ctr(ctr), out, offset);
-    hand_over(written, length)
+    hand_over_length(written, length)
 }
 
 #[unsafe(no_mangle)]
@@ -84,23 +96,17 @@ pub extern "C" fn sframe_read_header(
     ensures length_after { length.new ≡ read_length (read_header bytes.now) }
 {
     match header::read_header(bytes) {
-        Some(
-            Header {
-                kid: k,
-                ctr: c,
-                length: n,
-            },
-        ) => {
-            *kid = k.0;
-            *ctr = c.0;
-            *length = n;
+        Some(head) => {
+            *kid = head.kid.0;
+            *ctr = head.ctr.0;
+            *length = head.length;
             DONE
         }
         None => {
             *kid = 0;
             *ctr = 0;
             *length = 0;
-            HEADER_INVALID
+            Refusal::HeaderInvalid.number()
         }
     }
 }
@@ -110,7 +116,7 @@ pub extern "C" fn sframe_make(store: &mut [u8]) -> u32
     ensures value { result ≡ (make store.old).number }
     ensures store_after { store.new ≡ (make store.old).store }
 {
-    store_calls::make(store)
+    number(store_calls::make(store))
 }
 
 #[unsafe(no_mangle)]
@@ -118,7 +124,7 @@ pub extern "C" fn sframe_add_sending(store: &mut [u8], kid: u64, suite: u64, bas
     ensures value { result ≡ (add sframe store.old Sending kid suite base.now).number }
     ensures store_after { store.new ≡ (add sframe store.old Sending kid suite base.now).store }
 {
-    add_key::add(store, Role::Sending, Kid(kid), suite, base)
+    number(add_key::add(store, Role::Sending, Kid(kid), suite, base))
 }
 
 #[unsafe(no_mangle)]
@@ -126,7 +132,7 @@ pub extern "C" fn sframe_add_receiving(store: &mut [u8], kid: u64, suite: u64, b
     ensures value { result ≡ (add sframe store.old Receiving kid suite base.now).number }
     ensures store_after { store.new ≡ (add sframe store.old Receiving kid suite base.now).store }
 {
-    add_key::add(store, Role::Receiving, Kid(kid), suite, base)
+    number(add_key::add(store, Role::Receiving, Kid(kid), suite, base))
 }
 
 #[unsafe(no_mangle)]
@@ -134,7 +140,7 @@ pub extern "C" fn sframe_remove(store: &mut [u8], kid: u64) -> u32
     ensures value { result ≡ (remove store.old kid).number }
     ensures store_after { store.new ≡ (remove store.old kid).store }
 {
-    store_calls::remove(store, Kid(kid), FRONT)
+    number(store_calls::remove(store, Kid(kid), FRONT))
 }
 
 // The same, with the place where the record is believed to stand.
@@ -143,7 +149,7 @@ pub extern "C" fn sframe_remove_near(store: &mut [u8], kid: u64, place: usize) -
     ensures value { result ≡ (remove store.old kid).number }
     ensures store_after { store.new ≡ (remove store.old kid).store }
 {
-    store_calls::remove(store, Kid(kid), place)
+    number(store_calls::remove(store, Kid(kid), place))
 }
 
 #[unsafe(no_mangle)]
@@ -161,8 +167,7 @@ pub extern "C" fn sframe_seal(
     ensures out_after { out.new ≡ (seal sframe store.old kid metadata.now plaintext.now 0 out.old).room }
 {
     let answer = seal_frame::seal(store, Kid(kid), FRONT, metadata, plaintext, out);
-    *length = answer.length;
-    answer.number
+    hand_over(answer, 0, length)
 }
 
 #[unsafe(no_mangle)]
@@ -181,8 +186,7 @@ pub extern "C" fn sframe_seal_at(
     ensures out_after { out.new ≡ (seal sframe store.old kid metadata.now plaintext.now offset out.old).room }
 {
     let answer = seal_frame::seal_at(store, Kid(kid), FRONT, metadata, plaintext, out, offset);
-    *length = answer.length;
-    answer.number
+    hand_over(answer, 0, length)
 }
 
 // The same, with the place where the record is believed to stand.
@@ -203,8 +207,7 @@ pub extern "C" fn sframe_seal_near(
     ensures out_after { out.new ≡ (seal sframe store.old kid metadata.now plaintext.now offset out.old).room }
 {
     let answer = seal_frame::seal_at(store, Kid(kid), place, metadata, plaintext, out, offset);
-    *length = answer.length;
-    answer.number
+    hand_over(answer, 0, length)
 }
 
 #[unsafe(no_mangle)]
@@ -221,8 +224,7 @@ pub extern "C" fn sframe_open(
     ensures out_after { out.new ≡ (opening sframe store.old metadata.now frame.now out.old).room }
 {
     let answer = open_frame::open(store, FRONT, frame, metadata, out);
-    *length = answer.length;
-    answer.number
+    hand_over(answer, 0, length)
 }
 
 // The same, with the place where the record is believed to stand.
@@ -241,8 +243,7 @@ pub extern "C" fn sframe_open_near(
     ensures out_after { out.new ≡ (opening sframe store.old metadata.now frame.now out.old).room }
 {
     let answer = open_frame::open(store, place, frame, metadata, out);
-    *length = answer.length;
-    answer.number
+    hand_over(answer, 0, length)
 }
 
 // Begins to seal in pieces.
@@ -264,8 +265,7 @@ pub extern "C" fn sframe_seal_begin(
 {
     let n = announced as usize;
     let answer = begin_seal::seal_begin(store, Kid(kid), FRONT, metadata, n, state, out);
-    *length = answer.length;
-    answer.number
+    hand_over(answer, 0, length)
 }
 
 #[unsafe(no_mangle)]
@@ -281,8 +281,7 @@ pub extern "C" fn sframe_seal_piece(
     ensures out_after { out.new ≡ (seal_piece state.old piece.now out.old).room }
 {
     let answer = pieces::seal_piece(state, piece, out);
-    *length = answer.length;
-    answer.number
+    hand_over(answer, 0, length)
 }
 
 #[unsafe(no_mangle)]
@@ -292,8 +291,7 @@ pub extern "C" fn sframe_seal_end(state: &[u8], out: &mut [u8], length: &mut usi
     ensures out_after { out.new ≡ (seal_end state.now out.old).room }
 {
     let answer = pieces::seal_end(state, out);
-    *length = answer.length;
-    answer.number
+    hand_over(answer, 0, length)
 }
 
 // Begins to check a received frame in pieces.
@@ -309,7 +307,7 @@ pub extern "C" fn sframe_check_begin(
     ensures state_after { state.new ≡ (check_begin sframe store.now metadata.now header.now announced state.old).state }
 {
     let n = announced as usize;
-    begin_check::check_begin(store, FRONT, header, metadata, n, state)
+    number(begin_check::check_begin(store, FRONT, header, metadata, n, state))
 }
 
 #[unsafe(no_mangle)]
@@ -317,14 +315,14 @@ pub extern "C" fn sframe_check_piece(state: &mut [u8], piece: &[u8]) -> u32
     ensures value { result ≡ (check_piece state.old piece.now).number }
     ensures state_after { state.new ≡ (check_piece state.old piece.now).state }
 {
-    pieces::check_piece(state, piece)
+    number(pieces::check_piece(state, piece))
 }
 
 #[unsafe(no_mangle)]
 pub extern "C" fn sframe_check_end(state: &[u8], tag: &[u8]) -> u32
     ensures { result ≡ check_end state.now tag.now }
 {
-    pieces::check_end(state, tag)
+    number(pieces::check_end(state, tag))
 }
 
 // The place of a key's record, for the calls that take one.
@@ -334,8 +332,7 @@ pub extern "C" fn sframe_find(store: &[u8], kid: u64, place: &mut usize) -> u32
     ensures place_after { place.new ≡ found store.now kid }
 {
     let answer = store_calls::locate(store, Kid(kid));
-    *place = answer.place;
-    answer.number
+    hand_over(answer, 0, place)
 }
 
 #[unsafe(no_mangle)]
@@ -344,8 +341,7 @@ pub extern "C" fn sframe_report(store: &[u8], kid: u64, count: &mut u64) -> u32
     ensures count_after { count.new ≡ reported store.now kid }
 {
     let answer = report_window::report(store, Kid(kid));
-    *count = answer.count;
-    answer.number
+    hand_over(answer, 0, count)
 }
 
 #[unsafe(no_mangle)]
@@ -361,8 +357,7 @@ pub extern "C" fn sframe_ratchet(
     ensures out_after { out.new ≡ (walk suite base.now steps out.old).room }
 {
     let answer = ratchet::walk(suite, base, steps, out);
-    *length = answer.length;
-    answer.number
+    hand_over(answer, 0, length)
 }
 
 #[unsafe(no_mangle)]
@@ -371,8 +366,8 @@ pub extern "C" fn sframe_ratchet_kid(generation: u64, step: u64, bits: u64, kid:
     ensures kid_after { kid.new ≡ kid_given generation step bits }
 {
     let answer = ratchet::kid_of(generation, step, bits);
-    *kid = answer.kid.0;
-    answer.number
+    *kid = answer.unwrap_or(Kid(0)).0;
+    number(answer)
 }
 
 // The KID of a member of a group: s bits are the index's, e bits the epoch's.
@@ -389,8 +384,8 @@ pub extern "C" fn sframe_group_kid(
     ensures kid_after { kid.new ≡ packed s e context index epoch }
 {
     let answer = group::pack(context, index, epoch, s, e);
-    *kid = answer.kid.0;
-    answer.number
+    *kid = answer.unwrap_or(Kid(0)).0;
+    number(answer)
 }
 
 #[unsafe(no_mangle)]
@@ -407,11 +402,20 @@ pub extern "C" fn sframe_group_parts(
     ensures index_after { index.new ≡ given (unpack_number s e) (index_in s e kid) }
     ensures epoch_after { epoch.new ≡ given (unpack_number s e) (epoch_in e kid) }
 {
-    let answer = group::unpack(Kid(kid), s, e);
-    *context = answer.context;
-    *index = answer.index;
-    *epoch = answer.epoch;
-    answer.number
+    match group::unpack(Kid(kid), s, e) {
+        Ok(parts) => {
+            *context = parts.context;
+            *index = parts.index;
+            *epoch = parts.epoch;
+            DONE
+        }
+        Err(refusal) => {
+            *context = 0;
+            *index = 0;
+            *epoch = 0;
+            refusal.number()
+        }
+    }
 }
 
 #[unsafe(no_mangle)]
@@ -419,7 +423,7 @@ pub extern "C" fn sframe_change_epoch(store: &mut [u8], e: u64, bits: u64) -> u3
     ensures value { result ≡ (change_epoch store.old e bits).number }
     ensures store_after { store.new ≡ (change_epoch store.old e bits).store }
 {
-    change_epoch::change_epoch(store, e, bits)
+    number(change_epoch::change_epoch(store, e, bits))
 }
 
 // The version of this library, by SFRAME_VERSION_NUMBER of the header that belongs to it.

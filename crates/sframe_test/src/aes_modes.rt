@@ -22,7 +22,7 @@ const LAST_COUNT: u32 = 0xffff_0000;
 // The context of a key by which batches are encrypted.
 fn context(key: &[u8]) -> aes_keys::Context
     requires { KeySize (length key.now) }
-    ensures { keys.Context key.now (number_of result) }
+    ensures { keys.Context key.now result }
 {
     let mut ctx = aes_keys::blank();
     aes_keys::expand(&mut ctx, key);

@@ -4,6 +4,7 @@
 // and at its own end.
 ghost use Rattle.std.specs.Prelude.{◌≡◌, [], ◌++◌, ◌≤◌, length, drop};
 ghost use Rattle.sha2_common.specs.Sha2.{hash};
+ghost use Rattle.sha2_common.specs.Sizes.{sha256, sha512};
 ghost use Rattle.sha2_common.specs.Limits.{maximum};
 ghost use Rattle.hmac.specs.Hmac.{hmac};
 ghost use Rattle.hmac.specs.Hkdf.{extract, expand, limit};
@@ -11,7 +12,7 @@ ghost use Rattle.hmac.specs.Limits.{largest};
 ghost use Rattle.sframe_test.specs.Judged.{Judged, HashTakes, HmacTakes, HkdfTakes, number_of};
 
 use crate::Refused;
-use hmac::{Hmac, LARGEST, hkdf_expand, hkdf_extract};
+use hmac::{HmacSha256, HmacSha512, LARGEST, hkdf_expand, hkdf_extract};
 use octets::copy;
 use sha2_common::{Hash, MAXIMUM};
 
@@ -28,16 +29,20 @@ fn digest_of<H: Hash<BLOCK, DIGEST>, const BLOCK: usize, const DIGEST: usize>(
     two.feed(&message[second..]).finish()
 }
 
-fn tag_of<H: Hash<BLOCK, DIGEST>, const BLOCK: usize, const DIGEST: usize>(
-    key: &[u8],
-    message: &[u8],
-    first: usize,
-    second: usize,
-) -> [u8; DIGEST]
+fn hmac_sha256_pieces(key: &[u8], message: &[u8], first: usize, second: usize) -> [u8; 32]
     requires { (first ≤ second) × (second ≤ length message.now) × (length message.now ≤ largest) × (length key.now ≤ largest) }
-    ensures { (result ≡ hmac H.params key.now message.now) × (length result ≡ DIGEST) }
+    ensures { (result ≡ hmac sha256 key.now message.now) × (length result ≡ 32) }
 {
-    let one = Hmac::<H, BLOCK, DIGEST>::new(key).feed(&message[..first]);
+    let one = HmacSha256::new(key).feed(&message[..first]);
+    let two = one.feed(&message[first..second]);
+    two.feed(&message[second..]).finish()
+}
+
+fn hmac_sha512_pieces(key: &[u8], message: &[u8], first: usize, second: usize) -> [u8; 64]
+    requires { (first ≤ second) × (second ≤ length message.now) × (length message.now ≤ largest) × (length key.now ≤ largest) }
+    ensures { (result ≡ hmac sha512 key.now message.now) × (length result ≡ 64) }
+{
+    let one = HmacSha512::new(key).feed(&message[..first]);
     let two = one.feed(&message[first..second]);
     two.feed(&message[second..]).finish()
 }
@@ -68,15 +73,16 @@ pub fn digest<H: Hash<BLOCK, DIGEST>, const BLOCK: usize, const DIGEST: usize>(
     Ok(())
 }
 
-// The tag of a message.
-pub fn tag<H: Hash<BLOCK, DIGEST>, const BLOCK: usize, const DIGEST: usize>(
+// The tag of a message. One function of a type parameter for both hashes gets no proof: a running HMAC over a parameter
+// owes that its size is below 2^63, which nothing here says.
+pub fn tag_sha256(
     key: &[u8],
     message: &[u8],
     first: usize,
     second: usize,
     tag: &mut [u8],
 ) -> Result<(), Refused>
-    ensures { Judged 0 (HmacTakes largest DIGEST key.now message.now first second tag.old) (tag.new ≡ hmac H.params key.now message.now ++ drop DIGEST tag.old) (tag.new ≡ tag.old) (number_of result) }
+    ensures { Judged 0 (HmacTakes largest 32 key.now message.now first second tag.old) (tag.new ≡ hmac sha256 key.now message.now ++ drop 32 tag.old) (tag.new ≡ tag.old) (number_of result) }
 {
     if LARGEST < key.len() {
         return Err(Refused::Input);
@@ -90,10 +96,39 @@ pub fn tag<H: Hash<BLOCK, DIGEST>, const BLOCK: usize, const DIGEST: usize>(
     if second < first {
         return Err(Refused::Input);
     }
-    if tag.len() < DIGEST {
+    if tag.len() < 32 {
         return Err(Refused::Input);
     }
-    let result = tag_of::<H, BLOCK, DIGEST>(key, message, first, second);
+    let result = hmac_sha256_pieces(key, message, first, second);
+    copy(tag, &result);
+    Ok(())
+}
+
+pub fn tag_sha512(
+    key: &[u8],
+    message: &[u8],
+    first: usize,
+    second: usize,
+    tag: &mut [u8],
+) -> Result<(), Refused>
+    ensures { Judged 0 (HmacTakes largest 64 key.now message.now first second tag.old) (tag.new ≡ hmac sha512 key.now message.now ++ drop 64 tag.old) (tag.new ≡ tag.old) (number_of result) }
+{
+    if LARGEST < key.len() {
+        return Err(Refused::Input);
+    }
+    if LARGEST < message.len() {
+        return Err(Refused::Input);
+    }
+    if message.len() < second {
+        return Err(Refused::Input);
+    }
+    if second < first {
+        return Err(Refused::Input);
+    }
+    if tag.len() < 64 {
+        return Err(Refused::Input);
+    }
+    let result = hmac_sha512_pieces(key, message, first, second);
     copy(tag, &result);
     Ok(())
 }
@@ -112,7 +147,7 @@ pub fn key<H: Hash<BLOCK, DIGEST>, const BLOCK: usize, const DIGEST: usize>(
     if LARGEST < info.len() {
         return Err(Refused::Input);
     }
-    if out.len().div_ceil(DIGEST) > 255 {
+    if 255 * DIGEST < out.len() {
         return Err(Refused::Input);
     }
     let prk = hkdf_extract::<H, BLOCK, DIGEST>(b"", ikm);

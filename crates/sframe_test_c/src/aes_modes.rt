@@ -9,12 +9,14 @@ ghost use Rattle.gcm.specs.Gcm.{gcm_tag, gcm_encrypt};
 ghost use Rattle.sframe_test.specs.Judged.{Judged, AesTakes, AesRepeatTakes, CtrTakes, GhashTakes, GcmTakes};
 ghost use Rattle.sframe_test.specs.Repeated.{repeated};
 
+use sframe_test::number;
+
 // AES encryption of a block of 16 bytes, under a key of 16 or 32.
 #[unsafe(no_mangle)]
 pub extern "C" fn sframe_test_aes(key: &[u8], block: &[u8], out: &mut [u8]) -> u32
     ensures { Judged 0 (AesTakes key.now block.now out.old) (out.new ≡ encrypt key.now block.now ++ drop 16 out.old) (out.new ≡ out.old) result }
 {
-    sframe_test::aes_modes::sframe_test_aes(key, block, out)
+    number(sframe_test::aes_modes::sframe_test_aes(key, block, out))
 }
 
 // AES encryption of a block n times over, on one context: for n large, the time of the block alone.
@@ -22,7 +24,7 @@ pub extern "C" fn sframe_test_aes(key: &[u8], block: &[u8], out: &mut [u8]) -> u
 pub extern "C" fn sframe_test_aes_repeat(key: &[u8], block: &[u8], n: u32, out: &mut [u8]) -> u32
     ensures { Judged 0 (AesRepeatTakes key.now block.now out.old) (out.new ≡ repeated (encrypt key.now) n block.now) (out.new ≡ out.old) result }
 {
-    sframe_test::aes_modes::sframe_test_aes_repeat(key, block, n, out)
+    number(sframe_test::aes_modes::sframe_test_aes_repeat(key, block, n, out))
 }
 
 // input XOR the key stream of a nonce of 12 bytes that starts at the block count.
@@ -36,7 +38,7 @@ pub extern "C" fn sframe_test_ctr(
 ) -> u32
     ensures { Judged 0 (CtrTakes key.now nonce.now count input.now out.old) (out.new ≡ ctr key.now nonce.now count input.now ++ drop (length input.now) out.old) (out.new ≡ out.old) result }
 {
-    sframe_test::aes_modes::sframe_test_ctr(key, nonce, count, input, out)
+    number(sframe_test::aes_modes::sframe_test_ctr(key, nonce, count, input, out))
 }
 
 // GHASH under a hash key of 16 bytes, over the data filled up with zeros to whole blocks.
@@ -44,7 +46,7 @@ pub extern "C" fn sframe_test_ctr(
 pub extern "C" fn sframe_test_ghash(key: &[u8], input: &[u8], out: &mut [u8]) -> u32
     ensures { Judged 0 (GhashTakes key.now input.now out.old) (out.new ≡ bytes 16 (absorb (number 16 key.now) 0 input.now) ++ drop 16 out.old) (out.new ≡ out.old) result }
 {
-    sframe_test::aes_modes::sframe_test_ghash(key, input, out)
+    number(sframe_test::aes_modes::sframe_test_ghash(key, input, out))
 }
 
 // GCM encryption: the ciphertext, then the tag. The associated data are header and metadata.
@@ -59,7 +61,9 @@ pub extern "C" fn sframe_test_gcm_seal(
 ) -> u32
     ensures { Judged 0 (GcmTakes (length plaintext.now + 16) key.now nonce.now header.now metadata.now plaintext.now out.old) (out.new ≡ gcm_encrypt key.now nonce.now (header.now ++ metadata.now) plaintext.now ++ drop (length plaintext.now + 16) out.old) (out.new ≡ out.old) result }
 {
-    sframe_test::aes_modes::sframe_test_gcm_seal(key, nonce, header, metadata, plaintext, out)
+    number(sframe_test::aes_modes::sframe_test_gcm_seal(
+        key, nonce, header, metadata, plaintext, out,
+    ))
 }
 
 // The tag of GCM over a ciphertext.
@@ -74,5 +78,7 @@ pub extern "C" fn sframe_test_gcm_tag(
 ) -> u32
     ensures { Judged 0 (GcmTakes 16 key.now nonce.now header.now metadata.now ciphertext.now out.old) (out.new ≡ gcm_tag key.now nonce.now (header.now ++ metadata.now) ciphertext.now ++ drop 16 out.old) (out.new ≡ out.old) result }
 {
-    sframe_test::aes_modes::sframe_test_gcm_tag(key, nonce, header, metadata, ciphertext, out)
+    number(sframe_test::aes_modes::sframe_test_gcm_tag(
+        key, nonce, header, metadata, ciphertext, out,
+    ))
 }

@@ -9,6 +9,11 @@ ghost use Rattle.hmac.specs.Hkdf.{extract, expand, limit};
 ghost use Rattle.hmac.specs.Limits.{largest};
 ghost use Rattle.sframe_test.specs.Judged.{Judged, HashTakes, HmacTakes, HkdfTakes};
 
+use sframe_test::hash::{digest as digest_of, key, tag_sha256, tag_sha512};
+use sframe_test::number;
+use sha256::Sha256;
+use sha512::Sha512;
+
 #[unsafe(no_mangle)]
 pub extern "C" fn sframe_test_sha256(
     message: &[u8],
@@ -18,7 +23,7 @@ pub extern "C" fn sframe_test_sha256(
 ) -> u32
     ensures { Judged 0 (HashTakes maximum 32 message.now first second digest.old) (digest.new ≡ hash sha256 message.now ++ drop 32 digest.old) (digest.new ≡ digest.old) result }
 {
-    sframe_test::hash::sframe_test_sha256(message, first, second, digest)
+    number(digest_of::<Sha256, 64, 32>(message, first, second, digest))
 }
 
 #[unsafe(no_mangle)]
@@ -31,7 +36,7 @@ pub extern "C" fn sframe_test_hmac_sha256(
 ) -> u32
     ensures { Judged 0 (HmacTakes largest 32 key.now message.now first second tag.old) (tag.new ≡ hmac sha256 key.now message.now ++ drop 32 tag.old) (tag.new ≡ tag.old) result }
 {
-    sframe_test::hash::sframe_test_hmac_sha256(key, message, first, second, tag)
+    number(tag_sha256(key, message, first, second, tag))
 }
 
 // HKDF-Extract with no salt, then HKDF-Expand to out's length, which is at most 8160.
@@ -39,7 +44,7 @@ pub extern "C" fn sframe_test_hmac_sha256(
 pub extern "C" fn sframe_test_hkdf_sha256(ikm: &[u8], info: &[u8], out: &mut [u8]) -> u32
     ensures { Judged 0 (HkdfTakes largest (limit sha256) ikm.now info.now out.old) (out.new ≡ expand sha256 (extract sha256 [] ikm.now) info.now (length out.old)) (out.new ≡ out.old) result }
 {
-    sframe_test::hash::sframe_test_hkdf_sha256(ikm, info, out)
+    number(key::<Sha256, 64, 32>(ikm, info, out))
 }
 
 #[unsafe(no_mangle)]
@@ -51,7 +56,7 @@ pub extern "C" fn sframe_test_sha512(
 ) -> u32
     ensures { Judged 0 (HashTakes maximum 64 message.now first second digest.old) (digest.new ≡ hash sha512 message.now ++ drop 64 digest.old) (digest.new ≡ digest.old) result }
 {
-    sframe_test::hash::sframe_test_sha512(message, first, second, digest)
+    number(digest_of::<Sha512, 128, 64>(message, first, second, digest))
 }
 
 #[unsafe(no_mangle)]
@@ -64,7 +69,7 @@ pub extern "C" fn sframe_test_hmac_sha512(
 ) -> u32
     ensures { Judged 0 (HmacTakes largest 64 key.now message.now first second tag.old) (tag.new ≡ hmac sha512 key.now message.now ++ drop 64 tag.old) (tag.new ≡ tag.old) result }
 {
-    sframe_test::hash::sframe_test_hmac_sha512(key, message, first, second, tag)
+    number(tag_sha512(key, message, first, second, tag))
 }
 
 // HKDF-Extract with no salt, then HKDF-Expand to out's length, which is at most 16320.
@@ -72,5 +77,5 @@ pub extern "C" fn sframe_test_hmac_sha512(
 pub extern "C" fn sframe_test_hkdf_sha512(ikm: &[u8], info: &[u8], out: &mut [u8]) -> u32
     ensures { Judged 0 (HkdfTakes largest (limit sha512) ikm.now info.now out.old) (out.new ≡ expand sha512 (extract sha512 [] ikm.now) info.now (length out.old)) (out.new ≡ out.old) result }
 {
-    sframe_test::hash::sframe_test_hkdf_sha512(ikm, info, out)
+    number(key::<Sha512, 128, 64>(ikm, info, out))
 }

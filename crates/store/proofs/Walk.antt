@@ -2,12 +2,12 @@
 -- Walks over the records of a store, one turn each, over plain variables. Assumes nothing.
 use mathlib.Core.Path.{◌≡◌, refl, sym, ◌∙◌, ap, ap₂}
 use mathlib.Core.Bool.{Bool, true, false, not}
-use mathlib.Core.List.{List, [], ◌∷◌}
+use mathlib.Core.List.{List, [], ◌∷◌, ◌++◌}
 use Prim.Native.Nat.{ℕ, zero, suc, ◌+◌, ◌*◌, ◌/◌, ◌%◌, ◌-◌, ◌<◌, ◌≤◌}
 use native.Mathlib.Omega.{arith}
 use lib.Dec.{ltb, eqb}
-use lib.ListN.{length, get_or, take, drop, length-take, length-drop}
-use lib.Seq.{drop-drop}
+use lib.ListN.{length, get_or, take, drop, length-take, length-drop, length-append}
+use lib.Seq.{drop-drop, take_at, drop_at}
 use borrow.Author.Tests.{le-leb, lt-leb, ltb-true, ltb-false, eq-eqb, ne_eqb}
 use Rattle.octets.specs.Octets.{pick, both}
 use Rattle.key_record.specs.Layout.{record_size, decode, obeys}
@@ -93,52 +93,39 @@ module _ (before l : List ℕ) (r : Bool) (e : r ≡ obeys l) (t : not r ≡ fal
   pub row-behind : (b : Bool) → (length before ≡ 0 → ⊥) → b ≡ in_order (decode before) (decode l) → b ≡ row_sound before l
   row-behind b z q = q ∙ sym (row-rest ∙ ap (λ (x : Bool). pick x true (in_order (decode before) (decode l))) (ne_eqb (length before) 0 z))
 
--- the row before the one at index at, where there is one
-pub behind : (s : List ℕ) (before at : ℕ) → at ≤ length s → (before < at → at ≡ before + record_size) → 0 < length (take (at - before) (drop before s)) → length (take (at - before) (drop before s)) ≡ record_size
-behind s before at h p some = by (two (ltb before at))
-  where
-    width : length (take (at - before) (drop before s)) ≤ at - before
-    width = simp (length-take, length-drop) (omega arith)
+-- one turn of it: behind a row before stand the rows of rest, of which row is the first
+module _ (before rest row next : List ℕ) (size : ℕ) (is-size : size ≡ record_size) (whole : length rest % record_size ≡ 0) (is : rest ≡ row ++ next) (len : length row ≡ size) where
+  sizes : length rest ≡ record_size + length next
+  sizes = ap length is ∙ length-append row next ∙ ap (λ (k : ℕ). k + length next) (len ∙ is-size)
 
-    by : Two (ltb before at) → length (take (at - before) (drop before s)) ≡ record_size
-    by (yes' t) = let e = p (ltb-true before at t) in simp (length-take, length-drop) (omega arith)
-    by (no' t) = let e = ltb-false before at t in absurd (omega (arith, some, width))
+  pub next-whole : length next % record_size ≡ 0
+  next-whole = let e = sizes in omega arith
 
--- one turn of it, behind the row that begins at before
-module _ (s : List ℕ) (before at end : ℕ) (whole : length s % record_size ≡ 0) (inside : at < length s) (even : at % record_size ≡ 0) (next : end ≡ at + record_size) where
-  turn : (length s - at) / record_size ≡ suc ((length s - end) / record_size)
-  turn = omega arith
+  turn : length rest / record_size ≡ suc (length next / record_size)
+  turn = let e = sizes in omega arith
 
-  part-is : take (end - at) (drop at s) ≡ take record_size (drop at s)
-  part-is = let e : end - at ≡ record_size = omega arith in ap (λ (k : ℕ). take k (drop at s)) e
+  first-is : take record_size rest ≡ row
+  first-is = ap (take record_size) is ∙ take_at row next record_size (len ∙ is-size)
 
-  rest-is : drop record_size (drop at s) ≡ drop end s
-  rest-is = drop-drop record_size at s ∙ ap (λ (k : ℕ). drop k s) (sym next)
+  next-is : drop record_size rest ≡ next
+  next-is = ap (drop record_size) is ∙ drop_at row next record_size (len ∙ is-size)
 
-  pass-turn : rows_sound ((length s - at) / record_size) (take (at - before) (drop before s)) (drop at s)
-      ≡ both (row_sound (take (at - before) (drop before s)) (take (end - at) (drop at s))) (rows_sound ((length s - end) / record_size) (take (end - at) (drop at s)) (drop end s))
+  pass-turn : rows_sound (length rest / record_size) before rest ≡ both (row_sound before row) (rows_sound (length next / record_size) row next)
   unfolding rows_sound
   pass-turn =
-      ap (λ (k : ℕ). rows_sound k (take (at - before) (drop before s)) (drop at s)) turn
-      ∙ ap₂ (λ (x y : List ℕ). both (row_sound (take (at - before) (drop before s)) x) (rows_sound ((length s - end) / record_size) x y)) (sym part-is) rest-is
+      ap (λ (k : ℕ). rows_sound k before rest) turn
+      ∙ ap₂ (λ (x y : List ℕ). both (row_sound before x) (rows_sound (length next / record_size) x y)) first-is next-is
 
-  module _ (r : Bool) (e : r ≡ row_sound (take (at - before) (drop before s)) (take (end - at) (drop at s)))
-      (i : rows_sound (length s / record_size) [] s ≡ rows_sound ((length s - at) / record_size) (take (at - before) (drop before s)) (drop at s)) where
-    pub pass-stop : not r ≡ true → false ≡ rows_sound (length s / record_size) [] s
-    pass-stop t = sym (i ∙ pass-turn ∙ ap (λ (b : Bool). both b (rows_sound ((length s - end) / record_size) (take (end - at) (drop at s)) (drop end s))) (told-false r _ e t))
+  module _ (r : Bool) (e : r ≡ row_sound before row) where
+    pub pass-stop : r ≡ false → rows_sound (length rest / record_size) before rest ≡ false
+    pass-stop t = pass-turn ∙ ap (λ (b : Bool). both b (rows_sound (length next / record_size) row next)) (sym e ∙ t)
 
-    pub pass-go : not r ≡ false → rows_sound (length s / record_size) [] s ≡ rows_sound ((length s - end) / record_size) (take (end - at) (drop at s)) (drop end s)
-    pass-go t = i ∙ pass-turn ∙ ap (λ (b : Bool). both b (rows_sound ((length s - end) / record_size) (take (end - at) (drop at s)) (drop end s))) (told-true r _ e t)
+    pub pass-go : r ≡ true → rows_sound (length rest / record_size) before rest ≡ rows_sound (length next / record_size) row next
+    pass-go t = pass-turn ∙ ap (λ (b : Bool). both b (rows_sound (length next / record_size) row next)) (sym e ∙ t)
 
-pub pass-start : (s : List ℕ) → rows_sound (length s / record_size) [] s ≡ rows_sound ((length s - 0) / record_size) (take (0 - 0) (drop 0 s)) (drop 0 s)
-pass-start s = let e : (length s - 0) / record_size ≡ length s / record_size = omega arith in ap (λ (k : ℕ). rows_sound k [] s) (sym e)
-
-pub pass-end : (s : List ℕ) (before at : ℕ) → length s ≤ at
-    → rows_sound (length s / record_size) [] s ≡ rows_sound ((length s - at) / record_size) (take (at - before) (drop before s)) (drop at s) → true ≡ rows_sound (length s / record_size) [] s
+pub pass-end : (before rest : List ℕ) (size : ℕ) → size ≡ record_size → length rest < size → rows_sound (length rest / record_size) before rest ≡ true
 unfolding rows_sound
-pass-end s before at past i =
-    let none : (length s - at) / record_size ≡ 0 = omega arith in
-    sym (i ∙ ap (λ (k : ℕ). rows_sound k (take (at - before) (drop before s)) (drop at s)) none)
+pass-end before rest size z h = let none : length rest / record_size ≡ 0 = omega arith in ap (λ (k : ℕ). rows_sound k before rest) none
 
 -- ---- the whole store
 

@@ -50,15 +50,12 @@ fn rows_sound(store: &[u8]) -> bool
     requires { Whole store.now }
     ensures { result ≡ rows_sound (length store.now / record_size) [] store.now }
 {
-    let mut before = 0;
-    let mut at = 0;
-    while at < store.len() {
-        let end = at + RECORD_SIZE;
-        if !row_sound(&store[before..at], &store[at..end]) {
+    let mut before = &store[..0];
+    for row in store.chunks_exact(RECORD_SIZE) {
+        if !row_sound(before, row) {
             return false;
         }
-        before = at;
-        at = end;
+        before = row;
     }
     true
 }

@@ -11,14 +11,14 @@ use sframe_test::cipher_suites::{
 };
 use std::alloc::{AllocError, Global};
 use std::io::{self, Read};
-use suites::sizes::Aes128CtrHmacSha256Tag80;
+use suites::Suite;
 use vector_text::Tally;
 
 // The most bytes of standard input that are judged.
 const MOST: u64 = 65536;
 
 // The bytes of a salt and of a nonce.
-const NN: usize = Aes128CtrHmacSha256Tag80::NN;
+const NN: usize = Suite::NN;
 
 // The bytes of the longest input or result.
 const ROOM: usize = 80;
@@ -132,13 +132,7 @@ fn derivation(alloc: Global, line: &[u8]) -> Result<bool, AllocError> {
     let base = bytes(alloc, line, 4)?;
     let key = bytes(alloc, line, 5)?;
     let salt = bytes(alloc, line, 6)?;
-    Ok(derives(
-        number(line, 1),
-        &base,
-        number(line, 2),
-        &key,
-        &salt,
-    ))
+    Ok(derives(number(line, 1), &base, number(line, 2), &key, &salt))
 }
 
 // Whether the nonce of a line comes out right.

@@ -14,6 +14,8 @@ use Rattle.track_record.specs.Record.{TrackId, TrackRecord, empty, is_empty, is_
 use Rattle.track_record.specs.Inner.Rows.{held_of}
 use Rattle.track_record.specs.Inner.Rows.{Held}
 use Rattle.track_record.specs.declared.Kind.{Kind}
+use Rattle.track_record.specs.declared.Kind.TheVariants.{Sender, Receiver, Retired}
+use Rattle.track_record.proofs.Records.{parts_of}
 use Rattle.track_record.specs.Record as Records
 use Rattle.tracks.specs.Calls.{make, remove_causes, remove_at, remove}
 use Rattle.tracks.specs.Tracks.{length_right, encode_all, records, sound}
@@ -39,9 +41,14 @@ pub retired-none : (r : TrackRecord) (h : Option Held) → h ≡ held_of r → h
 retired-none empty h e n = refl
 retired-none (Records.track t) h e n = let z : ◌≡◌ {A = ℕ} 0 1 = cc in absurd (omega arith)
 
+pub rests-else : (k : Kind) → (k ≡ Retired → ⊥) → false ≡ Records.rests k
+rests-else Sender d = refl
+rests-else Receiver d = refl
+rests-else Retired d = absurd (d refl)
+
 pub retired-told : (r : TrackRecord) (h : Option Held) (k : Kind) (s : Rattle.suites.specs.declared.sizes.Suite.Suite) → h ≡ held_of r → h ≡ Some (k, s) → Records.rests k ≡ is_retired r
 retired-told empty h k s e n = let z : ◌≡◌ {A = ℕ} 0 1 = cc in absurd (omega arith)
-retired-told (Records.track t) h k s e n = let q : k ≡ t.kind = cc in ap Records.rests q
+retired-told (Records.track t) h k s e n = ap Records.rests (parts_of k t.kind s t.suite (sym n ∙ e)).0
 
 -- ---- Remove
 

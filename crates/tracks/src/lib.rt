@@ -168,7 +168,10 @@ fn is_retired(row: &[u8]) -> bool
     requires { length row.now ≡ record_size }
     ensures { result ≡ is_retired (decode row.now) }
 {
-    matches!(row::held_in(row), Some((Kind::Retired, _)))
+    let Some((kind, _)) = row::held_in(row) else {
+        return false;
+    };
+    matches!(kind, Kind::Retired)
 }
 
 // Makes a track store: zeros throughout.

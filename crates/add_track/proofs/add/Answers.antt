@@ -49,7 +49,7 @@ find_free-requires c =
 
 pub returns-in_err-i : goal.returns-in_err-i
 returns-in_err-i c =
-    let answered = add-full c.args.store.now c.args.role (track_id c.args.name.now c.args.id.0) c.args.suite c.args.base.now _ c.is_sound.ensures (ap not c.if-not-is_sound.false) _ c.find.ensures _ c.in_ok-known.ensures.ok_part _ c.is_barred.ensures c.if-is_barred.false c.if-base-lt-MIN_BASE_KEY.false c.if-base-gt-MAX_BASE_KEY.false c.if-name-gt-MAX_NAME.false _ c.find-2.ensures c.in-None.is _ c.find_free.ensures c.in_err-i.ensures.ok_part in record { value = missing-number c.ok_or-i.result c.find_free.result _ c.ok_or-i.ensures.value _ _ c.in_err-i.was c.from_residual-in_err-i.ensures.1 ∙ answered.0; store_after = answered.1 }
+    let answered = add-full c.args.store.now c.args.role (track_id c.args.name.now c.args.id.0) c.args.suite c.args.base.now _ c.is_sound.ensures (ap not c.if-not-is_sound.false) _ c.find.ensures _ c.in_ok-known.ensures.ok_part _ c.is_barred.ensures c.if-is_barred.false c.if-base-lt-MIN_BASE_KEY.false c.if-base-gt-MAX_BASE_KEY.false c.if-name-gt-MAX_NAME.false _ c.find-2.ensures c.in-None.is _ c.find_free.ensures c.in_err-i.ensures.ok_part in record { value = missing-number c.ok_or-2.result c.find_free.result _ c.ok_or-2.ensures.value _ _ c.in_err-i.was c.from_residual-in_err-i.ensures.1 ∙ answered.0; store_after = answered.1 }
 
 pub fill_at-requires : goal.fill_at-requires
 fill_at-requires c =

@@ -85,11 +85,6 @@ pub record Unsliced (q l : List ℕ) : Type 0 where
   pub sized : length l ≡ 256
   pub each : (m : ℕ) → m < 16 → block_at l m ≡ block_of (state q (lane_of m))
 
--- The bytes of the sixteen states, encrypted.
-pub record Enciphered (key q l : List ℕ) : Type 0 where
-  pub sized : length l ≡ 256
-  pub each : (m : ℕ) → m < 16 → block_at l m ≡ block_of (encrypt_state key (state q (lane_of m)))
-
 -- Sixteen blocks, encrypted.
 pub record Blocks (key : List ℕ) (f : ℕ → List ℕ) (l : List ℕ) : Type 0 where
   pub sized : length l ≡ 256

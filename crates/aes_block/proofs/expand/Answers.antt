@@ -27,5 +27,5 @@ returns c =
     let v = c.loop-i.invariant in
     let w = c.words-w in
     let e : c.loop-i.i ≡ 60 = omega arith in
-    context _ _ _ (λ i. omega (arith, c.shared_slice_known-1.given i)) c.requires
+    context _ _ _ (λ i. omega (arith, c.type_inv.key i)) c.requires
     (copied key w.result c.loop-i.ctx _ c.requires v.0 (rw e at v.1) w.ensures.1 refl)

@@ -11,9 +11,9 @@ pub returns : goal.returns
 returns c =
     let a = c.args in
     let s : State = a.s in
-    let k : ℕ → ℕ = λ i. get_or a.ctx.now i 0 in
+    let k : ℕ → ℕ = λ i. get_or a.t.ctx.now i 0 in
     cc (
-      round-columns a.ctx.now a.r s.c0 s.c1 s.c2 s.c3,
+      round-columns a.t.ctx.now a.r s.c0 s.c1 s.c2 s.c3,
       column-0 (k (4 * a.r)) s.c0 s.c1 s.c2 s.c3,
       column-1 (k (4 * a.r + 1)) s.c1 s.c2 s.c3 s.c0,
       column-2 (k (4 * a.r + 2)) s.c2 s.c3 s.c0 s.c1,

@@ -1,7 +1,9 @@
 -- SPDX-License-Identifier: MIT
+use Rattle.std.proofs.Common.{◌∙◌}
 use Rattle.moq_c.proofs.moq_seal.Goals as goal
 
 pub returns : goal.returns
 returns c =
     let e = c.seal-answer.ensures in
-    record { value = e.number_value.0; length_after = e.number_value.1; store_after = e.store_after; out_after = e.room_after }
+    let h = c.hand_over.ensures in
+    record { value = h.value ∙ e.number_value.0; length_after = h.length_after ∙ e.number_value.1; store_after = e.store_after; out_after = e.room_after }

@@ -1,33 +1,37 @@
 -- SPDX-License-Identifier: MIT
-use mathlib.Core.Path.{refl}
-use mathlib.Core.List.{[]}
+use mathlib.Core.Path.{refl, sym, ◌∙◌, ap}
+use mathlib.Core.List.{List, []}
+use Prim.Native.Nat.{ℕ, ◌/◌}
 use native.Mathlib.Omega.{arith}
-use lib.ListN.{length-take, length-drop}
-use Rattle.store.proofs.Walk.{behind, pass-stop, pass-go, pass-start, pass-end}
-use mathlib.Core.Bool.{not}
-use mathlib.Core.Path.{ap}
+use lib.ListN.{length}
+use Rattle.key_record.specs.Layout.{record_size}
+use Rattle.store.specs.Inner.Places.{rows_sound}
+use Rattle.store.proofs.Walk.{next-whole, pass-stop, pass-go, pass-end}
 use Rattle.store.proofs.rows_sound.Goals as goal
 
-pub loop-at-init : goal.loop-at-init
-loop-at-init c = (omega arith, refl, omega arith, (λ h. absurd (omega arith)), pass-start c.args.store.now)
+pub loop-row-init : goal.loop-row-init
+loop-row-init c =
+    let a = c.chunks_exact-row-items.ensures in
+    let b = c.into_iter-row-iterator.ensures.into_iter_gives in
+    rw (b, a.rest, a.size) (refl, c.requires, (λ h. absurd (omega arith)), refl)
 
 pub row_sound-requires : goal.row_sound-requires
-row_sound-requires c =
-    let s = c.args.store.now in
-    (simp (length-take, length-drop) (omega arith), λ h. behind s c.loop-at.before c.loop-at.at c.loop-at.invariant.0 c.loop-at.invariant.3 h)
+row_sound-requires c = (c.in-Some.ensures.steps.1.1 ∙ c.loop-row.invariant.0, c.loop-row.invariant.2)
 
 pub returns-then-not-row_sound : goal.returns-then-not-row_sound
 returns-then-not-row_sound c =
-    pass-stop c.args.store.now c.loop-at.before c.loop-at.at _ c.requires c.loop-at-test.true c.loop-at.invariant.1 refl _ c.row_sound.ensures c.loop-at.invariant.4 (ap not c.if-not-row_sound.true)
+    let i = c.loop-row.invariant in
+    let s = c.in-Some.ensures.steps in
+    sym (i.3 ∙ pass-stop c.loop-row.before.now _ _ _ _ i.0 i.1 s.1.0 s.1.1 _ c.row_sound.ensures c.if-not-row_sound.true)
 
-pub loop-at-preserved : goal.loop-at-preserved
-loop-at-preserved c = (
-  omega arith,
-  omega arith,
-  omega arith,
-  (λ h. refl),
-  pass-go c.args.store.now c.loop-at.before c.loop-at.at _ c.requires c.loop-at-test.true c.loop-at.invariant.1 refl _ c.row_sound.ensures c.loop-at.invariant.4 (ap not c.if-not-row_sound.false),
-)
+pub loop-row-preserved : goal.loop-row-preserved
+loop-row-preserved c =
+    let i = c.loop-row.invariant in
+    let s = c.in-Some.ensures.steps in
+    (s.0 ∙ i.0, next-whole c.loop-row.before.now _ _ _ _ i.0 i.1 s.1.0 s.1.1, (λ h. s.1.1 ∙ i.0), i.3 ∙ pass-go c.loop-row.before.now _ _ _ _ i.0 i.1 s.1.0 s.1.1 _ c.row_sound.ensures c.if-not-row_sound.false)
 
 pub returns : goal.returns
-returns c = pass-end c.args.store.now c.loop-at.before c.loop-at.at (omega arith) c.loop-at.invariant.4
+returns c =
+    let i = c.loop-row.invariant in
+    let s = c.in-None.ensures.steps in
+    sym (i.3 ∙ pass-end _ _ _ i.0 s.1.0)

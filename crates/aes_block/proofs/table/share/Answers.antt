@@ -6,4 +6,4 @@ use Rattle.aes_block.proofs.Rounds.{look}
 use Rattle.aes_block.proofs.table.share.Goals as goal
 
 pub returns : goal.returns
-returns c = rw (c.low.ensures, c.entry.ensures, c.byte_of.ensures) (look _ (s_box-lt _) c.args.i c.requires.i_lt_4)
+returns c = rw (c.low.ensures, c.entry.ensures, c.byte_of.ensures) (look _ (s_box-lt _) c.args.i c.requires)

@@ -16,7 +16,7 @@ loop-init c = (search rules, refl)
 pub loop-preserved : goal.loop-preserved
 loop-preserved c =
     let a = c.args in
-    let v = c.loop.counternvariant in
+    let v = c.loop.invariant in
     let e = encrypt-step (key_of a.ctx.now) c.loop.out _ _ _ v.0 c.load-s.ensures c.encrypt-t.ensures c.store.ensures in
     let m = repeat-step (key_of a.ctx.now) a.out.now c.loop.out _ c.loop.counter v.1 e in
     m
@@ -24,4 +24,4 @@ loop-preserved c =
 pub returns : goal.returns
 returns c =
     let e : c.loop.counter ≡ c.args.n = omega arith in
-    rw e at c.loop.counternvariant.2
+    rw e at c.loop.invariant.1

@@ -13,8 +13,8 @@ returns-then-message-second g c = inr (refl, (λ t. omega arith), refl)
 pub returns-then-second-first : goal.returns-then-second-first
 returns-then-second-first g c = inr (refl, (λ t. omega arith), refl)
 
-pub returns-then-digest-lt-DIGEST : goal.returns-then-digest-lt-DIGEST
-returns-then-digest-lt-DIGEST g c = inr (refl, (λ t. omega arith), refl)
+pub returns-then-digest : goal.returns-then-digest
+returns-then-digest g c = inr (refl, (λ t. omega arith), refl)
 
 pub returns : goal.returns
 returns g c =
