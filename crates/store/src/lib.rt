@@ -96,17 +96,8 @@ pub fn rank(store: &[u8], kid: Kid) -> usize
     requires { sound store.now ≡ true }
     ensures { result ≡ rank kid.0 (records store.now) }
 {
-    let mut low = 0;
-    let mut high = store.len() / RECORD_SIZE;
-    while low < high {
-        let middle = low + (high - low) / 2;
-        if row::precedes(row_at(store, middle), kid) {
-            low = middle + 1;
-        } else {
-            high = middle;
-        }
-    }
-    low
+    let (rows, _) = store.as_chunks::<RECORD_SIZE>();
+    rows.partition_point(|row| row::precedes(row, kid))
 }
 
 // Where the record stands that holds a KID.
