@@ -8,10 +8,9 @@ use mathlib.Core.Logic.{◌⊎◌, inl, inr, ⊎_elim}
 use native.Mathlib.Nat.{eq-or-lt_of_le, le_of_suc-le-suc, mod-lt}
 use native.Mathlib.Numerals.{add-one}
 use native.Mathlib.Omega.{arith}
-use borrow.Author.Count.{below_more}
 use borrow.Rule.Slice.PartMut.{put_mid}
-use lib.ListN.{length, get_or, set, take, drop, length-set, length-append, length-drop, drop_of_length-le}
-use lib.Seq.{get_or-set_same, get_or-set_other, drop_at, take-append-le, drop-append-le, take_all}
+use lib.ListN.{length, get_or, take, drop, length-append, length-drop, drop_of_length-le}
+use lib.Seq.{drop_at, take-append-le, drop-append-le, take_all}
 use Rattle.octets.specs.Octets.{bytes, pasted}
 use Rattle.octets.proofs.Laws.{bytes-length, bytes-add, bytes-mod, lent-bytes, pasted-append, pasted-front, pasted_length}
 use Rattle.aes.specs.Aes.{block_size, word, block_of}
@@ -26,64 +25,6 @@ either : (x : ℕ) → x < 2 → (x ≡ 0) ⊎ (x ≡ 1)
 either zero h = inl refl
 either (suc zero) h = inr refl
 either (suc (suc x)) h = absurd (omega arith)
-
--- ---- words of two blocks
-
-pub gather-start : (q t : List ℕ) → length t ≡ state_planes → Gathered 0 q t
-gather-start q t l =
-    record {
-      sized = l;
-      even-first = λ i h. absurd (omega arith);
-      even-second = λ i h. absurd (omega arith);
-      odd-first = λ i h. absurd (omega arith);
-      odd-second = λ i h. absurd (omega arith);
-    }
-
--- Four words written.
-module _ (t : List ℕ) (i a b c d : ℕ) (l : length t ≡ state_planes) (h : i < 8) where
-  abbrev one : List ℕ
-  one = set t (4 * i) a
-
-  abbrev two : List ℕ
-  two = set one (4 * i + 1) b
-
-  abbrev three : List ℕ
-  three = set two (4 * i + 2) c
-
-  abbrev four : List ℕ
-  four = set three (4 * i + 3) d
-
-  four_below : (k : ℕ) → k < 4 * i → get_or four k 0 ≡ get_or t k 0
-  four_below k g =
-      get_or-set_other three (4 * i + 3) k d 0 (omega arith) ∙ get_or-set_other two (4 * i + 2) k c 0 (omega arith)
-      ∙ get_or-set_other one (4 * i + 1) k b 0 (omega arith) ∙ get_or-set_other t (4 * i) k a 0 (omega arith)
-
-  four-0 : get_or four (4 * i) 0 ≡ a
-  four-0 =
-      get_or-set_other three (4 * i + 3) (4 * i) d 0 (omega arith) ∙ get_or-set_other two (4 * i + 2) (4 * i) c 0 (omega arith)
-      ∙ get_or-set_other one (4 * i + 1) (4 * i) b 0 (omega arith) ∙ get_or-set_same t (4 * i) a 0 (omega arith)
-
-  four-1 : get_or four (4 * i + 1) 0 ≡ b
-  four-1 =
-      get_or-set_other three (4 * i + 3) (4 * i + 1) d 0 (omega arith) ∙ get_or-set_other two (4 * i + 2) (4 * i + 1) c 0 (omega arith)
-      ∙ get_or-set_same one (4 * i + 1) b 0 (simp length-set (omega arith))
-
-  four-2 : get_or four (4 * i + 2) 0 ≡ c
-  four-2 =
-      get_or-set_other three (4 * i + 3) (4 * i + 2) d 0 (omega arith) ∙ get_or-set_same two (4 * i + 2) c 0 (simp length-set (omega arith))
-
-  four-3 : get_or four (4 * i + 3) 0 ≡ d
-  four-3 = get_or-set_same three (4 * i + 3) d 0 (simp length-set (omega arith))
-
-  pub gather-next : (q : List ℕ) → Gathered i q t → a ≡ half q i 4 → b ≡ half q i 0 → c ≡ half q i 5 → d ≡ half q i 1 → Gathered (i + 1) q four
-  gather-next q g ea eb ec ed =
-      record {
-        sized = simp length-set l;
-        even-first = below_more _ _ (λ k m. four_below (4 * k) (omega arith) ∙ g.even-first k m) (four-0 ∙ ea);
-        even-second = below_more _ _ (λ k m. four_below (4 * k + 1) (omega arith) ∙ g.even-second k m) (four-1 ∙ eb);
-        odd-first = below_more _ _ (λ k m. four_below (4 * k + 2) (omega arith) ∙ g.odd-first k m) (four-2 ∙ ec);
-        odd-second = below_more _ _ (λ k m. four_below (4 * k + 3) (omega arith) ∙ g.odd-second k m) (four-3 ∙ ed);
-      }
 
 -- ---- words as bytes
 

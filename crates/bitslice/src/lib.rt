@@ -11,7 +11,8 @@ ghost use Rattle.bitslice.specs.Lanes.{Sum, Doubled, Mixed, Turned, Lowest, Spre
 ghost use Rattle.bitslice.specs.Circuit.{top, products, inverse, scaled, bottom};
 ghost use Rattle.bitslice.specs.Inner.Parts.{eight_of, sums_of, nibble_of, inverted_of, terms_of, flip_word, Words};
 
-// Sixty-four bytes: bit i of the byte in lane j is bit j of plane i.
+// Sixty-four bytes: bit i of the byte in lane j is bit j of plane i. Eight fields and no array: the circuit and its theorems
+// name the planes one by one, and an array would have the same eight lines with numbers.
 #[derive(Clone, Copy)]
 pub struct Planes {
     pub p0: u64,

@@ -43,12 +43,6 @@ front_rest key nonce s b =
     numbered : (m : ℕ) → front_of nonce 0 (2 + m) ≡ nonce ++ bytes 4 (2 + m)
     numbered m = let e : 2 + m ≡ suc (1 + m) = omega arith in rw (e, zero-add (suc (1 + m)))
 
--- A copy, XORed with as much of a key stream.
-pub xored : (l o p q s : List ℕ) → length o ≡ length l → p ≡ l ++ drop (length l) o → q ≡ xors p s → q ≡ xors l s
-xored l o p q s e f g =
-    let z : drop (length l) o ≡ [] = drop_of_length-le o {i = length l} (omega arith) in
-    g ∙ rw (f, z, append-nil l)
-
 module _ (key nonce : List ℕ) where
   -- The batch of sixteen blocks that byte p of the key stream lies in, where its blocks from k on are those of the stream.
   pub batch-part : (f : ℕ → List ℕ) (s l : List ℕ) (k count at p : ℕ) → Blocks key f s

@@ -6,11 +6,9 @@ use mathlib.Core.List.{List}
 use Prim.Native.Nat.{ℕ, ◌+◌, ◌*◌, ◌/◌, ◌%◌, ◌^◌, ◌≤◌, ◌<◌}
 use native.Mathlib.Nat.{zero-add, add-mul, mul_assoc, div-add-mod', mod-lt, lt_of_lt_of_le}
 use native.Mathlib.Omega.{arith}
-use borrow.Author.Count.{below_more}
 use lib.Bits.{bit_xor, xor_zero_r, xor_self, xor_comm, xor_lt, xor_shr, xor_shifted, xor_block}
 use lib.Pow.{pow-add, pow_mono, pow_pos, shl_lt, split}
-use lib.ListN.{get_or, set, length-set}
-use lib.Seq.{get_or-set_same, get_or-set_other}
+use lib.ListN.{get_or}
 use Rattle.octets.proofs.Bits.{xor_assoc, xor-twice}
 use Rattle.clmul.specs.Clmul.{clmul}
 use Rattle.clmul.specs.Inner.Karatsuba.{karatsuba}
@@ -84,19 +82,6 @@ expanded h hi lo t l e k = subst (λ (x : List ℕ). HashKey h x) (sym e) made
           fits = rw q l;
           key = ap₂ (λ (x y : ℕ). halve (pair x y)) p q ∙ k;
         }
-
--- ---- `products`
-
-pub products-step : (f t p : List ℕ) (i v : ℕ) → i < 9 → v ≡ clmul 32 (get_or f i 0) (get_or t i 0) → Products f t i p → Products f t (i + 1) (set p i v)
-products-step f t p i v h e s =
-    record {
-      sized = length-set p i v ∙ s.sized;
-      entry = below_more _ _ (λ j q. get_or-set_other p i j v 0 (omega arith) ∙ s.entry j q) (get_or-set_same p i v 0 (omega (arith, s.sized)) ∙ e);
-    }
-
-pub products-last : (f g t p : List ℕ) (i v : ℕ) → i ≡ 8 → f ≡ g → v ≡ clmul 32 (get_or f 8 0) (get_or t 8 0) → Products f t i p → Products g t 9 (set p 8 v)
-products-last f g t p i v e h q s =
-    subst (λ (x : List ℕ). Products x t 9 (set p 8 v)) h (products-step f t p 8 v (omega arith) q (subst (λ (x : ℕ). Products f t x p) e s))
 
 -- ---- `join`
 

@@ -5,7 +5,6 @@ use mathlib.Core.Path.{◌≡◌, refl, ap, ap₂, sym, ◌∙◌}
 use mathlib.Core.List.{List, [], ◌++◌}
 use mathlib.Core.Logic.{◌⊎◌, inl, inr}
 use Prim.Native.Nat.{ℕ, ◌+◌, ◌*◌, ◌-◌, ◌%◌, ◌^◌, ◌≤◌, ◌<◌, min}
-use native.Mathlib.Nat.{zero-add}
 use native.Mathlib.Omega.{arith}
 use borrow.Author.Tests.{lt-ltb, le-ltb}
 use borrow.Rule.Slice.PartMut.{put_mid}
@@ -13,21 +12,13 @@ use lib.ListN.{length, take, drop, length-append, length-take, length-drop}
 use lib.Seq.{length-take-le}
 use Rattle.octets.specs.Octets.{xors}
 use Rattle.octets.proofs.Laws.{part-rest}
-use Rattle.aes.specs.Aes.{block_size}
 use Rattle.bitslice.proofs.Turns.{le-or-lt}
-use Rattle.aes_batch.specs.Inner.Batch.{batch_size, Blocks, front_of}
+use Rattle.aes_batch.specs.Inner.Batch.{Blocks, front_of}
 use Rattle.gcm.specs.Counter.{ctr}
 use Rattle.gcm.proofs.Streams as Streams
 use Rattle.gcm_batch.proofs.Batches.{front-part, step, done}
 use Rattle.piece_stream.specs.CounterFrom.{ctr_from}
 use Rattle.piece_stream.specs.Inner.Fronts.{batch_at, in_front}
-
--- What a front has, and what it has not.
-pub front-none : (i n : ℕ) → i < block_size → (0 ≡ in_front i n) × (0 ≤ n) × (i + 0 ≤ batch_size)
-front-none i n h = (rw (lt-ltb i block_size h), omega arith, omega arith)
-
-pub front-has : (i n r : ℕ) → block_size ≤ i → i < batch_size → r ≡ min (0 + (batch_size - i)) n → (r ≡ in_front i n) × (r ≤ n) × (i + r ≤ batch_size)
-front-has i n r h k e = (e ∙ rw (le-ltb i block_size h, zero-add (batch_size - i)), omega arith, omega arith)
 
 module _ (key nonce : List ℕ) where
   -- However cut.

@@ -48,6 +48,7 @@ fn in_front(i: usize, n: usize) -> usize
 }
 
 // As apply_from, with the front of the batch that the input starts in: what that has of the key stream is not made again.
+// `gcm_batch::apply` is this from block count 2 on; it stands apart, since the wrong programs of this crate are of these lines.
 pub fn apply_front(
     ctx: &Context,
     nonce: &[u8],
