@@ -13,7 +13,7 @@ ghost use Rattle.begin_check.specs.Check.{check_at, check_begin};
 
 use answers::{Refusal, too_long};
 use header::Header;
-use pieces::{Kind, STATE_SIZE};
+use pieces::{CHECKING, STATE_SIZE};
 
 // Begins to check a frame, whose header has been read, with the record that holds its KID.
 fn begin_with(
@@ -39,7 +39,7 @@ fn begin_with(
     }
     begin_state::write_first(
         row,
-        Kind::Checking,
+        CHECKING,
         head.ctr,
         &bytes[0..head.length],
         metadata,

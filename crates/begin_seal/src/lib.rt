@@ -17,7 +17,7 @@ ghost use Rattle.begin_seal.specs.Begin.{begin_causes, seal_begin};
 
 use answers::{Refusal, too_long};
 use header::{Kid, MAX_HEADER};
-use pieces::{Kind, STATE_SIZE};
+use pieces::{SEALING, STATE_SIZE};
 
 // The length of the header of a sending record's next frame.
 fn header_length(row: &[u8], kid: Kid) -> usize
@@ -76,15 +76,7 @@ fn write_line(
     let mut head = [0u8; MAX_HEADER];
     let n = judge_seal::write_next(row, kid, &mut head);
     let ctr = key_record::row::next_of(row);
-    begin_state::write_first(
-        row,
-        Kind::Sealing,
-        ctr,
-        &head[0..n],
-        metadata,
-        announced,
-        state,
-    );
+    begin_state::write_first(row, SEALING, ctr, &head[0..n], metadata, announced, state);
     octets::copy(room, &head[0..n]);
     n
 }

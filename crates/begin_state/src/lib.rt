@@ -6,7 +6,7 @@ ghost use Rattle.std.specs.Prelude.{◌≡◌, true, ◌++◌, ◌≤◌, length
 ghost use Rattle.octets.specs.Octets.{pasted};
 ghost use Rattle.header.specs.Header.{max_header};
 ghost use Rattle.answers.specs.Limits.{max_plaintext, max_metadata};
-ghost use Rattle.piece_line.specs.State.{state_size, kind_byte};
+ghost use Rattle.piece_line.specs.State.{state_size};
 ghost use Rattle.key_record.specs.Layout.{decode};
 ghost use Rattle.key_record.specs.Record.{suite_of};
 ghost use Rattle.key_record.specs.Inner.Rows.{Row, Numbered, has_key};
@@ -14,13 +14,12 @@ ghost use Rattle.store.specs.Sframe.{sframe};
 ghost use Rattle.begin_state.specs.Begin.{first_state};
 
 use header::Ctr;
-use pieces::Kind;
 use suites::Suite;
 
 // Writes it to the front of state, for a line of that kind and that counter. The associated data is the header, then the metadata.
 pub fn write_first(
     row: &[u8],
-    kind: Kind,
+    kind: u8,
     ctr: Ctr,
     header: &[u8],
     metadata: &[u8],
@@ -29,7 +28,7 @@ pub fn write_first(
 )
     requires row { (Row row.now) × (has_key (decode row.now) ≡ true) × (state_size ≤ length state.old) }
     requires header_len_bound { (length header.now ≤ max_header) × (length metadata.now ≤ max_metadata) × (announced ≤ max_plaintext) }
-    ensures { state.new ≡ pasted state.old 0 (first_state sframe (kind_byte kind) (decode row.now) ctr.0 announced (header.now ++ metadata.now)) }
+    ensures { state.new ≡ pasted state.old 0 (first_state sframe kind (decode row.now) ctr.0 announced (header.now ++ metadata.now)) }
 {
     let suite = key_record::row::suite_of(row);
     let nonce = suites::derivation::nonce_of(key_record::row::salt_of(row), ctr);

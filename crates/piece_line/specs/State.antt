@@ -7,8 +7,6 @@ use Rattle.header.specs.Header.{max_header}
 use Rattle.answers.specs.Limits.{max_plaintext, max_metadata}
 use Rattle.suites.specs.declared.sizes.Suite.{Suite}
 use Rattle.suites.specs.Suites.{Nk, Nn, suite_of}
-use Rattle.piece_line.specs.declared.state.Kind.{Kind}
-use Rattle.piece_line.specs.declared.state.Kind.TheVariants.{Sealing, Checking}
 use Rattle.piece_hash.specs.Held.{held_size}
 
 -- Where each field starts. The kind of line stands at 0, the suite's number at 1.
@@ -43,10 +41,6 @@ sealing = 1
 
 abbrev pub checking : ℕ
 checking = 2
-
-abbrev pub kind_byte : Kind → ℕ
-kind_byte Sealing = sealing
-kind_byte Checking = checking
 
 -- ---- the fields
 

@@ -2,7 +2,7 @@
 // The running state: where its fields stand, and which states are possible.
 ghost use Rattle.std.specs.Prelude.{◌≡◌, ◌+◌, ◌≤◌, ◌<◌, ◌^◌, length};
 ghost use Rattle.suites.specs.Suites.{Nk};
-ghost use Rattle.piece_line.specs.State.{at_key, state_size, aad_in, announced_in, taken_in, counts_fit, kind_byte, line_of};
+ghost use Rattle.piece_line.specs.State.{at_key, state_size, aad_in, announced_in, taken_in, counts_fit, line_of};
 
 use answers::{MAX_METADATA, MAX_PLAINTEXT};
 use header::MAX_HEADER;
@@ -11,24 +11,10 @@ use suites::Suite;
 // The bytes of a state.
 pub const STATE_SIZE: usize = 168;
 
-// The kinds of line.
-#[derive(Clone, Copy, PartialEq, Eq)]
-pub enum Kind {
-    Sealing,
-    Checking,
-}
+// The kinds of line: bytes of the state and no enum, since `line_of`, and the beginnings above it, answer for any byte.
+pub const SEALING: u8 = 1;
 
-impl Kind {
-    // The byte by which a state names it.
-    pub fn byte(self) -> u8
-        ensures { result ≡ kind_byte self }
-    {
-        match self {
-            Kind::Sealing => 1,
-            Kind::Checking => 2,
-        }
-    }
-}
+pub const CHECKING: u8 = 2;
 
 // Where each field starts. The kind of line stands at 0.
 pub const SUITE: usize = 1;
@@ -105,13 +91,13 @@ fn counts_fit(state: &[u8]) -> bool
 }
 
 // The suite of a line of a kind, where the state is possible.
-pub fn line_of(state: &[u8], kind: Kind) -> Option<Suite>
-    ensures { result ≡ line_of (kind_byte kind) state.now }
+pub fn line_of(state: &[u8], kind: u8) -> Option<Suite>
+    ensures { result ≡ line_of kind state.now }
 {
     if state.len() < STATE_SIZE {
         return None;
     }
-    if state[0] != kind.byte() {
+    if state[0] != kind {
         return None;
     }
     if !counts_fit(state) {

@@ -28,9 +28,6 @@ use Rattle.aead.proofs.Laws.{whole-key}
 use Rattle.piece_hash.specs.Held.{kept, kept_block, absorb_whole}
 use Rattle.piece_hash.proofs.Blocks.{whole-short, left-short}
 use Rattle.piece_hash.proofs.Joins.{fed-join, fresh-room}
-use Rattle.piece_line.specs.State.{kind_byte}
-use Rattle.piece_line.specs.declared.state.Kind.{Kind}
-use Rattle.piece_line.specs.declared.state.Kind.TheVariants.{Sealing, Checking}
 use Rattle.piece_line.specs.Line.{tag_front, front, key_field, hash_after, state_after, begun}
 
 -- ---- the running hash
@@ -73,10 +70,6 @@ one_byte x h = bytes-suc 0 x ∙ ap₂ (λ (i : ℕ) (l : List ℕ). i ∷ l) (a
 next : (l o r x y : List ℕ) (i n : ℕ) → i + length x ≡ n → n + length y ≤ length l → o ≡ pasted l i x → r ≡ pasted o n y → r ≡ pasted l i (x ++ y)
 next l o r x y i n e h f g =
     g ∙ ap₂ (λ (a : List ℕ) (j : ℕ). pasted a j y) f (sym e) ∙ pasted-append l i x y (omega arith)
-
-pub kind-fits : (k : Kind) → kind_byte k < 256
-kind-fits Sealing = omega arith
-kind-fits Checking = omega arith
 
 pub front-written : (s a b c d : List ℕ) (kind num aad n : ℕ) (suite : Suite) → 168 ≤ length s → kind < 256 → num ≡ number_of suite
     → a ≡ pasted s 0 (bytes 1 kind) → b ≡ pasted a 1 (bytes 1 num) → c ≡ pasted b 2 (bytes 2 aad) → d ≡ pasted c 4 (bytes 4 n)

@@ -9,12 +9,12 @@ ghost use Rattle.suites.specs.Inner.Sizes.{max_nt};
 ghost use Rattle.suites.specs.declared.sizes.Mode.TheVariants.{CtrHmac, Gcm};
 ghost use Rattle.suites.specs.declared.sizes.Suite.TheVariants.{Ctr80};
 ghost use Rattle.piece_hash.specs.Held.{held_size};
-ghost use Rattle.piece_line.specs.State.{state_size, kind_byte, at_key, key_space};
+ghost use Rattle.piece_line.specs.State.{state_size, at_key, key_space};
 ghost use Rattle.piece_line.specs.Line.{front, key_field, hash_after, begun};
 
 use octets::{copy_at, write_be_at};
 use piece_line::hash_key;
-use piece_line::state::{AAD, ANNOUNCED, HASH, KEY, Kind, NONCE, STATE_SIZE, SUITE, TAKEN};
+use piece_line::state::{AAD, ANNOUNCED, HASH, KEY, NONCE, STATE_SIZE, SUITE, TAKEN};
 use sha256::Sha256;
 use suites::Suite;
 use suites::sizes::Mode;
@@ -84,11 +84,11 @@ fn begin_hash(
 }
 
 // Writes kind, suite and counts to the front of a state.
-fn write_front(kind: Kind, suite: Suite, aad: usize, announced: usize, state: &mut [u8])
+fn write_front(kind: u8, suite: Suite, aad: usize, announced: usize, state: &mut [u8])
     requires { state_size ≤ length state.old }
-    ensures { state.new ≡ pasted state.old 0 (front (kind_byte kind) suite aad announced) }
+    ensures { state.new ≡ pasted state.old 0 (front kind suite aad announced) }
 {
-    write_be_at(state, 0, 1, kind.byte() as u64);
+    write_be_at(state, 0, 1, kind as u64);
     write_be_at(state, SUITE, 1, suite.number());
     write_be_at(state, AAD, 2, aad as u64);
     write_be_at(state, ANNOUNCED, 4, announced as u64);
@@ -107,7 +107,7 @@ fn write_key(key: &[u8], state: &mut [u8])
 
 // Writes the state of a line that begins.
 pub fn begin(
-    kind: Kind,
+    kind: u8,
     suite: Suite,
     key: &[u8],
     nonce: &[u8],
@@ -118,7 +118,7 @@ pub fn begin(
 )
     requires state_size_in_bounds { (state_size ≤ length state.old) × (length key.now ≡ Nk suite) × (length nonce.now ≡ Nn) }
     requires header_len_bound { (length header.now ≤ max_header) × (length metadata.now ≤ max_metadata) × (announced ≤ max_plaintext) }
-    ensures { state.new ≡ pasted state.old 0 (begun (kind_byte kind) suite announced nonce.now key.now (header.now ++ metadata.now)) }
+    ensures { state.new ≡ pasted state.old 0 (begun kind suite announced nonce.now key.now (header.now ++ metadata.now)) }
 {
     write_front(kind, suite, header.len() + metadata.len(), announced, state);
     copy_at(state, NONCE, nonce);

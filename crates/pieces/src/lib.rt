@@ -16,7 +16,7 @@ ghost use Rattle.pieces.specs.Calls.{past, early, seal_piece, seal_end, check_pi
 
 use answers::Refusal;
 pub use beginning::begin;
-pub use piece_line::state::{Kind, STATE_SIZE};
+pub use piece_line::state::{CHECKING, SEALING, STATE_SIZE};
 use piece_line::state::{announced_of, line_of, taken_of};
 use piece_line::{seal_in, tag_of, take_in};
 use suites::Suite;
@@ -53,7 +53,7 @@ pub fn seal_piece(state: &mut [u8], piece: &[u8], room: &mut [u8]) -> Result<usi
     ensures state_after { state.new ≡ (seal_piece state.old piece.now room.old).state }
     ensures room_after { room.new ≡ (seal_piece state.old piece.now room.old).room }
 {
-    let suite = line_of(state, Kind::Sealing).ok_or(Refusal::StateMismatch)?;
+    let suite = line_of(state, SEALING).ok_or(Refusal::StateMismatch)?;
     if is_past(state, piece.len()) {
         return Err(Refusal::StateMismatch);
     }
@@ -69,7 +69,7 @@ pub fn seal_end(state: &[u8], room: &mut [u8]) -> Result<usize, Refusal>
     ensures number_value { (number_of result ≡ (seal_end state.now room.old).number) × (written_of result ≡ (seal_end state.now room.old).written) }
     ensures room_after { room.new ≡ (seal_end state.now room.old).room }
 {
-    let suite = line_of(state, Kind::Sealing).ok_or(Refusal::StateMismatch)?;
+    let suite = line_of(state, SEALING).ok_or(Refusal::StateMismatch)?;
     if is_early(state) {
         return Err(Refusal::StateMismatch);
     }
@@ -87,7 +87,7 @@ pub fn check_piece(state: &mut [u8], piece: &[u8]) -> Result<(), Refusal>
     ensures value { number_of result ≡ (check_piece state.old piece.now).number }
     ensures state_after { state.new ≡ (check_piece state.old piece.now).state }
 {
-    let suite = line_of(state, Kind::Checking).ok_or(Refusal::StateMismatch)?;
+    let suite = line_of(state, CHECKING).ok_or(Refusal::StateMismatch)?;
     if is_past(state, piece.len()) {
         return Err(Refusal::StateMismatch);
     }
@@ -109,7 +109,7 @@ fn is_tag(suite: Suite, state: &[u8], tag: &[u8]) -> bool
 pub fn check_end(state: &[u8], tag: &[u8]) -> Result<(), Refusal>
     ensures { number_of result ≡ check_end state.now tag.now }
 {
-    let suite = line_of(state, Kind::Checking).ok_or(Refusal::StateMismatch)?;
+    let suite = line_of(state, CHECKING).ok_or(Refusal::StateMismatch)?;
     if is_early(state) {
         return Err(Refusal::StateMismatch);
     }

@@ -1,5 +1,4 @@
 -- SPDX-License-Identifier: MIT
-use Rattle.piece_line.specs.State.{kind_byte}
 use Rattle.key_record.specs.Layout.{decode}
 use Rattle.begin_state.proofs.States.{keyed-held, first-written}
 use Rattle.begin_state.proofs.write_first.Goals as goal
@@ -11,4 +10,4 @@ suite_of-suite-requires c =
 pub returns : goal.returns
 returns c =
     let a = c.args in
-    first-written _ (decode a.row.now) (kind_byte a.kind) a.ctr.0 a.announced _ _ _ _ a.state.now _ c.suite_of-suite.ensures c.key_of-key.ensures.0 c.salt_of.ensures.0 c.nonce_of-nonce.ensures.0 c.begin.ensures
+    first-written _ (decode a.row.now) a.kind a.ctr.0 a.announced _ _ _ _ a.state.now _ c.suite_of-suite.ensures c.key_of-key.ensures.0 c.salt_of.ensures.0 c.nonce_of-nonce.ensures.0 c.begin.ensures

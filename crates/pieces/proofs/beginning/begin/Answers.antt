@@ -1,5 +1,4 @@
 -- SPDX-License-Identifier: MIT
-use Rattle.piece_line.specs.State.{kind_byte}
 use Rattle.pieces.proofs.Begins.{begun-written}
 use mathlib.Core.List.{◌++◌}
 use lib.ListN.{length-append}
@@ -15,4 +14,4 @@ write_key-requires c =
 
 pub returns : goal.returns
 returns c =
-    begun-written c.args.state.now _ _ _ _ _ c.args.key.now c.args.nonce.now (c.args.header.now ++ c.args.metadata.now) (kind_byte c.args.kind) _ c.args.announced c.args.suite c.requires.state_size_in_bounds.0 c.requires.state_size_in_bounds.2 (omega (arith, c.requires.state_size_in_bounds.1, Nk-most c.args.suite)) (sym (length-append c.args.header.now c.args.metadata.now)) c.write_front.ensures c.copy_at.ensures c.write_key.ensures c.begin_hash.auto.b c.begin_hash.ensures refl
+    begun-written c.args.state.now _ _ _ _ _ c.args.key.now c.args.nonce.now (c.args.header.now ++ c.args.metadata.now) c.args.kind _ c.args.announced c.args.suite c.requires.state_size_in_bounds.0 c.requires.state_size_in_bounds.2 (omega (arith, c.requires.state_size_in_bounds.1, Nk-most c.args.suite)) (sym (length-append c.args.header.now c.args.metadata.now)) c.write_front.ensures c.copy_at.ensures c.write_key.ensures c.begin_hash.auto.b c.begin_hash.ensures refl
