@@ -11,9 +11,10 @@ ghost use Rattle.secure_objects.specs.Inner.Sizes.{numbers_most, head_most};
 use crate::varint::{MAX_VARINT, write_varint};
 use crate::{KeyId, MAX_NAME, Pair};
 use suites::Suite;
+use suites::sizes::Aes128GcmSha256;
 
 // The bytes of the nonce and of the salt: by the contract of `nonce_size`, the same in every suite.
-const NN: usize = Suite::NN;
+const NN: usize = Aes128GcmSha256::NN;
 
 // No head of the associated data is longer: three numbers and the name.
 const MAX_HEAD: usize = 3 * MAX_VARINT + MAX_NAME;
