@@ -10,14 +10,14 @@ ghost use Rattle.store.specs.Sframe.{sframe};
 use answers::{MAX_BASE_KEY, MIN_BASE_KEY, Refusal};
 use header::Kid;
 use key_record::Role;
-use suites::Suite;
+use suites::sizes::Aes128CtrHmacSha256Tag32;
 
 // Whether no key of that role and suite is added: the suite with tags of 4 bytes is for receiving alone.
 fn is_barred(role: Role, suite: u64) -> bool
     ensures { result ≡ barred role suite }
 {
     match role {
-        Role::Sending => suite == Suite::Ctr32.number(),
+        Role::Sending => suite == Aes128CtrHmacSha256Tag32::NUMBER,
         Role::Receiving => false,
     }
 }

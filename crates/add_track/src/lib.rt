@@ -9,7 +9,7 @@ ghost use Rattle.add_track.specs.Add.{barred, add};
 
 use answers::{MAX_BASE_KEY, MIN_BASE_KEY, Refusal};
 use secure_objects::{KeyId, MAX_NAME};
-use suites::Suite;
+use suites::sizes::Aes128CtrHmacSha256Tag32;
 use track_record::Role;
 
 // Whether no track of that role and suite is added: the suite with tags of 4 bytes is for receiving alone.
@@ -17,7 +17,7 @@ fn is_barred(role: Role, suite: u64) -> bool
     ensures { result ≡ barred role suite }
 {
     match role {
-        Role::Sending => suite == Suite::Ctr32.number(),
+        Role::Sending => suite == Aes128CtrHmacSha256Tag32::NUMBER,
         Role::Receiving => false,
     }
 }

@@ -15,13 +15,13 @@ ghost use Rattle.suites.specs.declared.sizes.Suite.TheVariants.{Ctr80};
 ghost use Rattle.aead.specs.Aead.{cipher_key, ctr_tag, tag, encrypt, decrypt, is_plain, room_after};
 
 use hmac_tag::mac;
-use suites::sizes::{Mode, Suite};
+use suites::sizes::{Aes128CtrHmacSha256Tag80, Aes128GcmSha256, Mode, Suite};
 
 // The bytes of the longest tag, which is that of Galois/counter mode.
-const MAX_NT: usize = Suite::MAX_NT;
+const MAX_NT: usize = Aes128GcmSha256::NT;
 
 // The bytes of the key that encrypt in counter mode: by the contract of `cipher_key_size`, the same in its three suites.
-const NKA: usize = Suite::NKA;
+const NKA: usize = Aes128CtrHmacSha256Tag80::NKA;
 
 // Fills ctx with the AES context of a suite's key.
 pub fn context(ctx: &mut [u64], suite: Suite, key: &[u8])

@@ -10,7 +10,7 @@ use crate::{
     COUNTER, EMPTY, HIGHEST, KEY, LAST, LAYOUT_VERSION, MARK, MASK, RECEIVING, RETIRED, SALT,
     SENDING, SPENT, SUITE, VERSION,
 };
-use suites::Suite;
+use suites::sizes::Aes128GcmSha256;
 use window::Window;
 
 // The room for a key is tested for zeros in blocks of so many bytes: fixed lengths compile to few instructions.
@@ -68,14 +68,13 @@ fn key_ends(row: &[u8], suite: u8) -> bool
     ensures { result ≡ zero_in (key_at + key_size suite) (highest_at - (key_at + key_size suite)) row.now }
 {
     let number = suite as u64;
-    let short = Suite::Gcm128.number();
-    if number < short {
+    if number < Aes128GcmSha256::NUMBER {
         return true;
     }
     if !zero_block(row, KEY + 2 * BLOCK) {
         return false;
     }
-    if number != short {
+    if number != Aes128GcmSha256::NUMBER {
         return true;
     }
     zero_block(row, KEY + BLOCK)

@@ -14,7 +14,7 @@ ghost use Rattle.seal_object.specs.Seal.{seal};
 ghost use Rattle.open_object.specs.Open.{opening};
 
 use answers::Refusal;
-use secure_objects::{GroupId, KeyId, ObjectId};
+use secure_objects::{GroupId, KeyId, ObjectId, Pair};
 use track_record::Role;
 
 // The number of what a call answers: 0 where it is done.
@@ -109,8 +109,10 @@ pub extern "C" fn moq_seal(
         store,
         name,
         KeyId(id),
-        GroupId(group),
-        ObjectId(object),
+        Pair {
+            group: GroupId(group),
+            object: ObjectId(object),
+        },
         properties,
         plaintext,
         out,
@@ -138,8 +140,10 @@ pub extern "C" fn moq_open(
         store,
         name,
         KeyId(id),
-        GroupId(group),
-        ObjectId(object),
+        Pair {
+            group: GroupId(group),
+            object: ObjectId(object),
+        },
         properties,
         sealed,
         out,

@@ -12,7 +12,7 @@ ghost use Rattle.track_record.specs.Record.{track_id, is_empty, receives};
 ghost use Rattle.open_object.specs.Open.{open_causes, open_at, opening};
 
 use answers::{Refusal, too_long};
-use secure_objects::{GroupId, KeyId, OBJECT_CEILING, ObjectId};
+use secure_objects::{KeyId, OBJECT_CEILING, ObjectId, Pair};
 use track_record::{Kind, row};
 
 // Whether a record of that kind opens.
@@ -59,17 +59,16 @@ fn open_with(
     row: &[u8],
     name: &[u8],
     id: KeyId,
-    group: GroupId,
-    object: ObjectId,
+    pair: Pair,
     properties: &[u8],
     sealed: &[u8],
     room: &mut [u8],
 ) -> Result<usize, Refusal>
     requires { (length row.now ≡ record_size) × (is_empty (decode row.now) ≡ false) × (length name.now ≤ name_most) }
-    ensures number_value { (number_of result ≡ (open_at true (decode row.now) [] (track_id name.now id.0) group.0 object.0 properties.now sealed.now room.old).number) × (written_of result ≡ (open_at true (decode row.now) [] (track_id name.now id.0) group.0 object.0 properties.now sealed.now room.old).written) }
-    ensures room_after { room.new ≡ (open_at true (decode row.now) [] (track_id name.now id.0) group.0 object.0 properties.now sealed.now room.old).room }
+    ensures number_value { (number_of result ≡ (open_at true (decode row.now) [] (track_id name.now id.0) pair.group.0 pair.object.0 properties.now sealed.now room.old).number) × (written_of result ≡ (open_at true (decode row.now) [] (track_id name.now id.0) pair.group.0 pair.object.0 properties.now sealed.now room.old).written) }
+    ensures room_after { room.new ≡ (open_at true (decode row.now) [] (track_id name.now id.0) pair.group.0 pair.object.0 properties.now sealed.now room.old).room }
 {
-    judge(row, object, properties.len(), sealed.len(), room.len())?;
+    judge(row, pair.object, properties.len(), sealed.len(), room.len())?;
     let (_, suite) = row::held_in(row).ok_or(Refusal::KidMissing)?;
     if !secure_objects::object::unsecure(
         suite,
@@ -77,8 +76,7 @@ fn open_with(
         row::salt_of(row),
         name,
         id,
-        group,
-        object,
+        pair,
         properties,
         sealed,
         room,
@@ -94,14 +92,13 @@ pub fn open(
     store: &[u8],
     name: &[u8],
     id: KeyId,
-    group: GroupId,
-    object: ObjectId,
+    pair: Pair,
     properties: &[u8],
     sealed: &[u8],
     room: &mut [u8],
 ) -> Result<usize, Refusal>
-    ensures number_value { (number_of result ≡ (opening store.now (track_id name.now id.0) group.0 object.0 properties.now sealed.now room.old).number) × (written_of result ≡ (opening store.now (track_id name.now id.0) group.0 object.0 properties.now sealed.now room.old).written) }
-    ensures room_after { room.new ≡ (opening store.now (track_id name.now id.0) group.0 object.0 properties.now sealed.now room.old).room }
+    ensures number_value { (number_of result ≡ (opening store.now (track_id name.now id.0) pair.group.0 pair.object.0 properties.now sealed.now room.old).number) × (written_of result ≡ (opening store.now (track_id name.now id.0) pair.group.0 pair.object.0 properties.now sealed.now room.old).written) }
+    ensures room_after { room.new ≡ (opening store.now (track_id name.now id.0) pair.group.0 pair.object.0 properties.now sealed.now room.old).room }
 {
     if !tracks::is_sound(store) {
         return Err(Refusal::StoreInvalid);
@@ -111,8 +108,7 @@ pub fn open(
         tracks::row_at(store, i),
         name,
         id,
-        group,
-        object,
+        pair,
         properties,
         sealed,
         room,

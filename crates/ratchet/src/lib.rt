@@ -15,6 +15,7 @@ ghost use Rattle.ratchet.specs.Inner.Sizes.{walked_size};
 use answers::{MAX_BASE_KEY, MIN_BASE_KEY, Refusal};
 use header::Kid;
 use suites::Suite;
+use suites::sizes::Aes256GcmSha512;
 
 // The most steps of one walk.
 const MAX_STEPS: u64 = 64;
@@ -25,7 +26,7 @@ const MAX_BITS: u64 = 16;
 const KID_BITS: u64 = 64;
 
 // The bytes of the longest key after a step.
-const MAX_NH: usize = Suite::MAX_NH;
+const MAX_NH: usize = Aes256GcmSha512::NH;
 
 // Fills out with the base key that follows base.
 fn next_key(suite: Suite, base: &[u8], out: &mut [u8])

@@ -12,7 +12,7 @@ ghost use Rattle.track_record.specs.Inner.Rows.{Row};
 ghost use Rattle.seal_object.specs.Seal.{seal_causes, object_under, seal};
 
 use answers::{Refusal, too_long};
-use secure_objects::{GroupId, KeyId, OBJECT_CEILING, ObjectId};
+use secure_objects::{KeyId, OBJECT_CEILING, Pair};
 use suites::Suite;
 use track_record::{Kind, row};
 
@@ -26,23 +26,22 @@ fn seals(kind: Kind) -> bool
 // Why a held record refuses to seal, by the first cause that applies.
 fn judge(
     row: &[u8],
-    group: GroupId,
-    object: ObjectId,
+    pair: Pair,
     properties: usize,
     plaintext: usize,
     room: usize,
 ) -> Result<(), Refusal>
     requires { (length row.now ≡ record_size) × (is_empty (decode row.now) ≡ false) }
-    ensures { number_of result ≡ first (seal_causes true (decode row.now) group.0 object.0 properties plaintext room) }
+    ensures { number_of result ≡ first (seal_causes true (decode row.now) pair.group.0 pair.object.0 properties plaintext room) }
 {
     let (kind, suite) = row::held_in(row).ok_or(Refusal::KidMissing)?;
     if !seals(kind) {
         return Err(Refusal::RoleRefused);
     }
-    if OBJECT_CEILING <= object.0 {
+    if OBJECT_CEILING <= pair.object.0 {
         return Err(Refusal::ObjectTooLarge);
     }
-    if row::is_below(row, group, object) {
+    if row::is_below(row, pair) {
         return Err(Refusal::PairNotAbove);
     }
     if too_long(plaintext, properties) {
@@ -59,16 +58,15 @@ fn write_object(
     row: &[u8],
     name: &[u8],
     id: KeyId,
-    group: GroupId,
-    object: ObjectId,
+    pair: Pair,
     properties: &[u8],
     plaintext: &[u8],
     room: &mut [u8],
 ) -> usize
     requires row_len { (length row.now ≡ record_size) × (length name.now ≤ name_most) }
-    requires room_value { first (seal_causes true (decode row.now) group.0 object.0 (length properties.now) (length plaintext.now) (length room.old)) ≡ done }
-    ensures value { result ≡ length (object_under (decode row.now) (track_id name.now id.0) group.0 object.0 properties.now plaintext.now) }
-    ensures room_after { room.new ≡ object_under (decode row.now) (track_id name.now id.0) group.0 object.0 properties.now plaintext.now ++ drop result room.old }
+    requires room_value { first (seal_causes true (decode row.now) pair.group.0 pair.object.0 (length properties.now) (length plaintext.now) (length room.old)) ≡ done }
+    ensures value { result ≡ length (object_under (decode row.now) (track_id name.now id.0) pair.group.0 pair.object.0 properties.now plaintext.now) }
+    ensures room_after { room.new ≡ object_under (decode row.now) (track_id name.now id.0) pair.group.0 pair.object.0 properties.now plaintext.now ++ drop result room.old }
 {
     let Some((_, suite)) = row::held_in(row) else {
         return 0;
@@ -80,8 +78,7 @@ fn write_object(
         row::salt_of(row),
         name,
         id,
-        group,
-        object,
+        pair,
         properties,
         plaintext,
         &mut room[0..end],
@@ -95,15 +92,14 @@ pub fn seal(
     store: &mut [u8],
     name: &[u8],
     id: KeyId,
-    group: GroupId,
-    object: ObjectId,
+    pair: Pair,
     properties: &[u8],
     plaintext: &[u8],
     room: &mut [u8],
 ) -> Result<usize, Refusal>
-    ensures number_value { (number_of result ≡ (seal store.old (track_id name.now id.0) group.0 object.0 properties.now plaintext.now room.old).number) × (written_of result ≡ (seal store.old (track_id name.now id.0) group.0 object.0 properties.now plaintext.now room.old).written) }
-    ensures store_after { store.new ≡ (seal store.old (track_id name.now id.0) group.0 object.0 properties.now plaintext.now room.old).store }
-    ensures room_after { room.new ≡ (seal store.old (track_id name.now id.0) group.0 object.0 properties.now plaintext.now room.old).room }
+    ensures number_value { (number_of result ≡ (seal store.old (track_id name.now id.0) pair.group.0 pair.object.0 properties.now plaintext.now room.old).number) × (written_of result ≡ (seal store.old (track_id name.now id.0) pair.group.0 pair.object.0 properties.now plaintext.now room.old).written) }
+    ensures store_after { store.new ≡ (seal store.old (track_id name.now id.0) pair.group.0 pair.object.0 properties.now plaintext.now room.old).store }
+    ensures room_after { room.new ≡ (seal store.old (track_id name.now id.0) pair.group.0 pair.object.0 properties.now plaintext.now room.old).room }
 {
     if !tracks::is_sound(store) {
         return Err(Refusal::StoreInvalid);
@@ -111,8 +107,7 @@ pub fn seal(
     let i = tracks::find(store, name, id).ok_or(Refusal::KidMissing)?;
     judge(
         tracks::row_at(store, i),
-        group,
-        object,
+        pair,
         properties.len(),
         plaintext.len(),
         room.len(),
@@ -121,12 +116,11 @@ pub fn seal(
         tracks::row_at(store, i),
         name,
         id,
-        group,
-        object,
+        pair,
         properties,
         plaintext,
         room,
     );
-    tracks::advance_at(store, i, group, object);
+    tracks::advance_at(store, i, pair);
     Ok(length)
 }

@@ -1,21 +1,20 @@
 -- SPDX-License-Identifier: MIT
 -- Laws of secure objects, for this crate's proofs and for those above it. Assumes nothing.
 use mathlib.Core.Path.{◌≡◌, refl, sym, ◌∙◌, ap, ap₂}
-use mathlib.Core.Bool.{Bool, true, false}
 use mathlib.Core.List.{List, [], ◌∷◌, ◌++◌, append_assoc, append-nil}
-use Prim.Native.Nat.{ℕ, suc, ◌+◌, ◌*◌, ◌/◌, ◌%◌, ◌^◌, ◌<◌, ◌≤◌}
+use Prim.Native.Nat.{ℕ, ◌+◌, ◌*◌, ◌/◌, ◌%◌, ◌^◌, ◌<◌, ◌≤◌}
 use native.Mathlib.Nat.{zero-add}
 use native.Mathlib.Omega.{arith}
 use lib.Arith.{digits_lt, digits_div, digits_mod}
 use lib.Dec.{ltb}
 use lib.ListN.{length}
 use borrow.Author.Tests.{ltb-true, ltb-false, lt-ltb, le-ltb}
-use Rattle.octets.specs.Octets.{Octets, bytes, pick}
+use Rattle.octets.specs.Octets.{Octets, bytes}
 use Rattle.octets.proofs.Laws.{bytes-length, bytes-add, bytes-mod}
 use Rattle.answers.proofs.Basics.{Two, yes', no', two}
 use Rattle.suites.specs.Suites.{Nk, Nn, Nt}
 use Rattle.suites.specs.Derivation.{nonce}
-use Rattle.aead.specs.Aead.{Decrypted, plain}
+use Rattle.aead.specs.Aead.{plain}
 use Rattle.suites.specs.declared.sizes.Suite.{Suite}
 use Rattle.suites.proofs.Laws.{nonce-differs, expanded-length, expanded-octets}
 use Rattle.aead.proofs.Laws.{encrypt-size, decrypt-encrypt, decrypt-only, decrypt-octets}

@@ -2,19 +2,18 @@
 -- The steps of the code, over plain variables. Assumes nothing.
 use mathlib.Core.Path.{◌≡◌, refl, sym, ◌∙◌, ap, ap₂}
 use mathlib.Core.List.{List, [], ◌∷◌, ◌++◌, append_assoc, append-nil}
-use mathlib.Core.Bool.{Bool, true, false}
-use Prim.Native.Nat.{ℕ, suc, ◌+◌, ◌*◌, ◌-◌, ◌^◌, ◌<◌, ◌≤◌}
-use native.Mathlib.Nat.{sub-zero, zero-add}
+use Prim.Native.Nat.{ℕ, suc, ◌+◌, ◌-◌, ◌<◌, ◌≤◌}
+use native.Mathlib.Nat.{sub-zero}
 use native.Mathlib.Omega.{arith}
-use lib.ListN.{length, take, drop, set, length-append, length-take, length-set}
-use lib.Seq.{length-take-le, take_at}
+use lib.ListN.{length, take, drop, set, length-append, length-set}
+use lib.Seq.{take_at}
 use Rattle.octets.specs.Octets.{bytes, pasted, xors}
-use Rattle.octets.proofs.Laws.{bytes-length, pasted-append, pasted-front, pasted_length, set-pasted}
+use Rattle.octets.proofs.Laws.{bytes-length, pasted-append, pasted-front, set-pasted}
 use Rattle.hmac.specs.Hkdf.{expand}
 use Rattle.octets.proofs.Writing.{front-all}
 use Rattle.suites.specs.Suites.{number_of, hash_of, Nn}
 use Rattle.suites.specs.Derivation.{secret, nonce}
-use Rattle.aead.specs.Aead.{encrypt, decrypt, Decrypted}
+use Rattle.aead.specs.Aead.{encrypt, decrypt}
 use Rattle.suites.specs.declared.sizes.Suite.{Suite}
 use Rattle.secure_objects.specs.Varint.{varint, varint_most}
 use Rattle.secure_objects.specs.Objects.{object_ceiling, counter, aad, secured, unsecured}

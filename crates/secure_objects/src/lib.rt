@@ -17,6 +17,13 @@ pub struct GroupId(pub u64);
 #[derive(Clone, Copy)]
 pub struct ObjectId(pub u64);
 
+// The group and the object of a sealing.
+#[derive(Clone, Copy)]
+pub struct Pair {
+    pub group: GroupId,
+    pub object: ObjectId,
+}
+
 // The longest full track name.
 pub const MAX_NAME: usize = 256;
 

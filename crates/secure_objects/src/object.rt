@@ -9,23 +9,24 @@ ghost use Rattle.secure_objects.specs.Objects.{name_most, object_ceiling, counte
 ghost use Rattle.secure_objects.specs.Inner.Sizes.{numbers_most, head_most};
 
 use crate::varint::{MAX_VARINT, write_varint};
-use crate::{GroupId, KeyId, MAX_NAME, ObjectId};
+use crate::{KeyId, MAX_NAME, Pair};
 use suites::Suite;
+use suites::sizes::Aes128GcmSha256;
 
 // The bytes of the nonce and of the salt: by the contract of `nonce_size`, the same in every suite.
-const NN: usize = Suite::NN;
+const NN: usize = Aes128GcmSha256::NN;
 
 // No head of the associated data is longer: three numbers and the name.
 const MAX_HEAD: usize = 3 * MAX_VARINT + MAX_NAME;
 
 // The nonce of an object under a salt.
-fn nonce_of(salt: &[u8], group: GroupId, object: ObjectId) -> [u8; NN]
-    requires { (length salt.now ≡ Nn) × (object.0 < object_ceiling) }
-    ensures { (result ≡ nonce salt.now (counter group.0 object.0)) × (length result ≡ Nn) }
+fn nonce_of(salt: &[u8], pair: Pair) -> [u8; NN]
+    requires { (length salt.now ≡ Nn) × (pair.object.0 < object_ceiling) }
+    ensures { (result ≡ nonce salt.now (counter pair.group.0 pair.object.0)) × (length result ≡ Nn) }
 {
     let mut counter = [0u8; NN];
-    octets::write_be_at(&mut counter, 0, 8, group.0);
-    octets::write_be_at(&mut counter, 8, 4, object.0);
+    octets::write_be_at(&mut counter, 0, 8, pair.group.0);
+    octets::write_be_at(&mut counter, 8, 4, pair.object.0);
     let mut n = [0u8; NN];
     octets::copy(&mut n, salt);
     octets::xor(&mut n, &counter);
@@ -33,13 +34,13 @@ fn nonce_of(salt: &[u8], group: GroupId, object: ObjectId) -> [u8; NN]
 }
 
 // Writes the head of the associated data to the front of out, all of it but the properties; its length is the result.
-fn write_head(out: &mut [u8], id: KeyId, group: GroupId, object: ObjectId, name: &[u8]) -> usize
+fn write_head(out: &mut [u8], id: KeyId, pair: Pair, name: &[u8]) -> usize
     requires { (numbers_most + length name.now ≤ length out.old) × (length name.now ≤ name_most) }
-    ensures { (take result out.new ≡ aad id.0 group.0 object.0 name.now []) × (result ≤ head_most) }
+    ensures { (take result out.new ≡ aad id.0 pair.group.0 pair.object.0 name.now []) × (result ≤ head_most) }
 {
     let a = write_varint(out, 0, id.0);
-    let b = write_varint(out, a, group.0);
-    let c = write_varint(out, b, object.0);
+    let b = write_varint(out, a, pair.group.0);
+    let c = write_varint(out, b, pair.object.0);
     octets::copy_at(out, c, name);
     c + name.len()
 }
@@ -51,19 +52,18 @@ pub fn secure(
     salt: &[u8],
     name: &[u8],
     id: KeyId,
-    group: GroupId,
-    object: ObjectId,
+    pair: Pair,
     properties: &[u8],
     plaintext: &[u8],
     out: &mut [u8],
 )
-    requires key_len { (length key.now ≡ Nk suite) × (length salt.now ≡ Nn) × (length name.now ≤ name_most) × (object.0 < object_ceiling) }
+    requires key_len { (length key.now ≡ Nk suite) × (length salt.now ≡ Nn) × (length name.now ≤ name_most) × (pair.object.0 < object_ceiling) }
     requires properties_len_bound { (length properties.now ≤ max_metadata) × (length plaintext.now ≤ max_plaintext) × (length out.old ≡ length plaintext.now + Nt suite) }
-    ensures { out.new ≡ secured suite key.now salt.now name.now id.0 group.0 object.0 properties.now plaintext.now }
+    ensures { out.new ≡ secured suite key.now salt.now name.now id.0 pair.group.0 pair.object.0 properties.now plaintext.now }
 {
-    let nonce = nonce_of(salt, group, object);
+    let nonce = nonce_of(salt, pair);
     let mut head = [0u8; MAX_HEAD];
-    let n = write_head(&mut head, id, group, object, name);
+    let n = write_head(&mut head, id, pair, name);
     ciphers::encrypt(suite, key, &nonce, &head[0..n], properties, plaintext, out);
 }
 
@@ -75,19 +75,18 @@ pub fn unsecure(
     salt: &[u8],
     name: &[u8],
     id: KeyId,
-    group: GroupId,
-    object: ObjectId,
+    pair: Pair,
     properties: &[u8],
     sealed: &[u8],
     out: &mut [u8],
 ) -> bool
-    requires key_len { (length key.now ≡ Nk suite) × (length salt.now ≡ Nn) × (length name.now ≤ name_most) × (object.0 < object_ceiling) }
+    requires key_len { (length key.now ≡ Nk suite) × (length salt.now ≡ Nn) × (length name.now ≤ name_most) × (pair.object.0 < object_ceiling) }
     requires properties_len_bound { (length properties.now ≤ max_metadata) × (Nt suite ≤ length sealed.now) × (length sealed.now - Nt suite ≤ max_plaintext) × (length sealed.now - Nt suite ≤ length out.old) }
-    ensures value { result ≡ is_plain (unsecured suite key.now salt.now name.now id.0 group.0 object.0 properties.now sealed.now) }
-    ensures out_after { out.new ≡ room_after (unsecured suite key.now salt.now name.now id.0 group.0 object.0 properties.now sealed.now) out.old }
+    ensures value { result ≡ is_plain (unsecured suite key.now salt.now name.now id.0 pair.group.0 pair.object.0 properties.now sealed.now) }
+    ensures out_after { out.new ≡ room_after (unsecured suite key.now salt.now name.now id.0 pair.group.0 pair.object.0 properties.now sealed.now) out.old }
 {
-    let nonce = nonce_of(salt, group, object);
+    let nonce = nonce_of(salt, pair);
     let mut head = [0u8; MAX_HEAD];
-    let n = write_head(&mut head, id, group, object, name);
+    let n = write_head(&mut head, id, pair, name);
     ciphers::decrypt(suite, key, &nonce, &head[0..n], properties, sealed, out)
 }

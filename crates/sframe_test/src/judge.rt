@@ -2,13 +2,13 @@
 // Tests of inputs that several functions share.
 ghost use Rattle.sframe_test.specs.Judged.{Tells, AesKey, Parts};
 
-use suites::Suite;
+use suites::sizes::Aes128CtrHmacSha256Tag80;
 
 // The longest of each input.
 pub const MAX_BYTES: usize = 65536;
 
 // The bytes of a salt and of a nonce.
-pub const NN: usize = Suite::NN;
+pub const NN: usize = Aes128CtrHmacSha256Tag80::NN;
 
 // Whether a key has 16 or 32 bytes.
 pub fn key_taken(key: &[u8]) -> bool

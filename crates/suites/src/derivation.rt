@@ -9,7 +9,7 @@ ghost use Rattle.suites.specs.Suites.{Nk, Nn, hash_of};
 ghost use Rattle.suites.specs.Derivation.{secret, label, derived, sframe_key, sframe_salt, nonce};
 ghost use Rattle.suites.specs.Inner.Sizes.{label_size, max_text};
 
-use crate::sizes::{Hash, Suite};
+use crate::sizes::{Aes128CtrHmacSha256Tag80, Hash, Suite};
 use header::{Ctr, Kid};
 use sha256::Sha256;
 use sha512::Sha512;
@@ -25,7 +25,7 @@ const MAX_TEXT: usize = 32;
 const MAX_LABEL: usize = MAX_TEXT + KID_SIZE + NUMBER_SIZE;
 
 // The bytes of the nonce and of the salt: by the contract of `nonce_size`, the same in every suite.
-const NN: usize = Suite::NN;
+const NN: usize = Aes128CtrHmacSha256Tag80::NN;
 
 // Writes the label of a derivation to the front of out: the text, the KID and the suite's number.
 fn write_label(out: &mut [u8], text: &[u8], suite: Suite, kid: Kid)

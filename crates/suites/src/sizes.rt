@@ -1,13 +1,97 @@
 // SPDX-License-Identifier: MIT
-// The five suites, and each one's row of Table 1 of RFC 9605.
+// Each suite as a type with its sizes in bytes (RFC 9605, Table 1), and all five as one enum.
 ghost use Rattle.std.specs.Prelude.{◌≡◌};
-ghost use Rattle.suites.specs.declared.sizes.Mode.TheVariants.{CtrHmac, Gcm};
-ghost use Rattle.suites.specs.declared.sizes.Hash.TheVariants.{Sha256};
-ghost use Rattle.suites.specs.Suites.{table, suite_of, number_of, mode_of, hash_of, params_of, cipher_key_size, Nh, Nk, Nn, Nt};
+ghost use Rattle.suites.specs.Suites.{suite_of, number_of, mode_of, hash_of, params_of, cipher_key_size, Nh, Nk, Nn, Nt};
+
+// AES_128_CTR_HMAC_SHA256_80
+#[derive(Clone, Copy)]
+pub struct Aes128CtrHmacSha256Tag80;
+
+impl Aes128CtrHmacSha256Tag80 {
+    pub const NUMBER: u64 = 1;
+
+    pub const NH: usize = 32;
+
+    pub const NKA: usize = 16;
+
+    pub const NK: usize = 48;
+
+    pub const NN: usize = 12;
+
+    pub const NT: usize = 10;
+}
+
+// AES_128_CTR_HMAC_SHA256_64
+#[derive(Clone, Copy)]
+pub struct Aes128CtrHmacSha256Tag64;
+
+impl Aes128CtrHmacSha256Tag64 {
+    pub const NUMBER: u64 = 2;
+
+    pub const NH: usize = 32;
+
+    pub const NKA: usize = 16;
+
+    pub const NK: usize = 48;
+
+    pub const NN: usize = 12;
+
+    pub const NT: usize = 8;
+}
+
+// AES_128_CTR_HMAC_SHA256_32
+#[derive(Clone, Copy)]
+pub struct Aes128CtrHmacSha256Tag32;
+
+impl Aes128CtrHmacSha256Tag32 {
+    pub const NUMBER: u64 = 3;
+
+    pub const NH: usize = 32;
+
+    pub const NKA: usize = 16;
+
+    pub const NK: usize = 48;
+
+    pub const NN: usize = 12;
+
+    pub const NT: usize = 4;
+}
+
+// AES_128_GCM_SHA256_128
+#[derive(Clone, Copy)]
+pub struct Aes128GcmSha256;
+
+impl Aes128GcmSha256 {
+    pub const NUMBER: u64 = 4;
+
+    pub const NH: usize = 32;
+
+    pub const NK: usize = 16;
+
+    pub const NN: usize = 12;
+
+    pub const NT: usize = 16;
+}
+
+// AES_256_GCM_SHA512_128
+#[derive(Clone, Copy)]
+pub struct Aes256GcmSha512;
+
+impl Aes256GcmSha512 {
+    pub const NUMBER: u64 = 5;
+
+    pub const NH: usize = 64;
+
+    pub const NK: usize = 32;
+
+    pub const NN: usize = 12;
+
+    pub const NT: usize = 16;
+}
 
 // A suite, by what tells it from the others: counter mode with HMAC and a tag of 80, 64 or 32 bits, or GCM with a key
 // of 128 or 256 bits.
-#[derive(Clone, Copy, PartialEq, Eq)]
+#[derive(Clone, Copy)]
 pub enum Suite {
     Ctr80,
     Ctr64,
@@ -17,29 +101,17 @@ pub enum Suite {
 }
 
 // How a suite encrypts and authenticates: AES-CTR with HMAC, or AES-GCM.
-#[derive(Clone, Copy, PartialEq, Eq)]
+#[derive(Clone, Copy)]
 pub enum Mode {
     CtrHmac,
     Gcm,
 }
 
 // The hash of a suite's key derivation.
-#[derive(Clone, Copy, PartialEq, Eq)]
+#[derive(Clone, Copy)]
 pub enum Hash {
     Sha256,
     Sha512,
-}
-
-// A row of Table 1: the number, how the suite encrypts, its hash, and the sizes in bytes.
-#[derive(Clone, Copy)]
-struct Row {
-    number: u64,
-    mode: Mode,
-    hash: Hash,
-    nh: usize,
-    nka: usize,
-    nk: usize,
-    nt: usize,
 }
 
 // The suite that has a number.
@@ -47,122 +119,115 @@ pub fn find(number: u64) -> Option<Suite>
     ensures { result ≡ suite_of number }
 {
     match number {
-        1 => Some(Suite::Ctr80),
-        2 => Some(Suite::Ctr64),
-        3 => Some(Suite::Ctr32),
-        4 => Some(Suite::Gcm128),
-        5 => Some(Suite::Gcm256),
+        Aes128CtrHmacSha256Tag80::NUMBER => Some(Suite::Ctr80),
+        Aes128CtrHmacSha256Tag64::NUMBER => Some(Suite::Ctr64),
+        Aes128CtrHmacSha256Tag32::NUMBER => Some(Suite::Ctr32),
+        Aes128GcmSha256::NUMBER => Some(Suite::Gcm128),
+        Aes256GcmSha512::NUMBER => Some(Suite::Gcm256),
         _ => None,
     }
 }
 
-// A row of a suite in counter mode with HMAC: these differ in the number and in the tag.
-fn ctr_row(number: u64, nt: usize) -> Row
-    ensures { (result.number ≡ number) × (result.mode ≡ CtrHmac) × (result.hash ≡ Sha256) × (result.nh ≡ 32) × (result.nka ≡ 16) × (result.nk ≡ 48) × (result.nt ≡ nt) }
-{
-    Row {
-        number,
-        mode: Mode::CtrHmac,
-        hash: Hash::Sha256,
-        nh: 32,
-        nka: Suite::NKA,
-        nk: 48,
-        nt,
-    }
-}
-
-// A row of a suite with GCM, whose whole key encrypts.
-fn gcm_row(number: u64, hash: Hash, nh: usize, nk: usize) -> Row
-    ensures { (result.number ≡ number) × (result.mode ≡ Gcm) × (result.hash ≡ hash) × (result.nh ≡ nh) × (result.nka ≡ 0) × (result.nk ≡ nk) × (result.nt ≡ 16) }
-{
-    Row {
-        number,
-        mode: Mode::Gcm,
-        hash,
-        nh,
-        nka: 0,
-        nk,
-        nt: Suite::MAX_NT,
-    }
-}
-
 impl Suite {
-    // Nn, the bytes of the nonce and of the salt, and Nka, those of the part of a key that encrypts where HMAC takes the
-    // others: the same in every suite that has them. The longest that a hash gives, and the longest tag.
-    pub const NN: usize = 12;
-
-    pub const NKA: usize = 16;
-
-    pub const MAX_NH: usize = 64;
-
-    pub const MAX_NT: usize = 16;
-
-    fn row(self) -> Row
-        ensures { (result.number ≡ (table self).number) × (result.mode ≡ (table self).mode) × (result.hash ≡ (table self).hash) × (result.nh ≡ (table self).nh) × (result.nka ≡ (table self).nka) × (result.nk ≡ (table self).nk) × (result.nt ≡ (table self).nt) }
-    {
-        match self {
-            Suite::Ctr80 => ctr_row(1, 10),
-            Suite::Ctr64 => ctr_row(2, 8),
-            Suite::Ctr32 => ctr_row(3, 4),
-            Suite::Gcm128 => gcm_row(4, Hash::Sha256, 32, 16),
-            Suite::Gcm256 => gcm_row(5, Hash::Sha512, 64, 32),
-        }
-    }
-
     // The registered number.
     pub fn number(self) -> u64
         ensures { result ≡ number_of self }
     {
-        self.row().number
+        match self {
+            Suite::Ctr80 => Aes128CtrHmacSha256Tag80::NUMBER,
+            Suite::Ctr64 => Aes128CtrHmacSha256Tag64::NUMBER,
+            Suite::Ctr32 => Aes128CtrHmacSha256Tag32::NUMBER,
+            Suite::Gcm128 => Aes128GcmSha256::NUMBER,
+            Suite::Gcm256 => Aes256GcmSha512::NUMBER,
+        }
     }
 
     // Nh, the bytes of what the hash gives.
     pub fn hash_size(self) -> usize
         ensures { result ≡ Nh self }
     {
-        self.row().nh
+        match self {
+            Suite::Ctr80 => Aes128CtrHmacSha256Tag80::NH,
+            Suite::Ctr64 => Aes128CtrHmacSha256Tag64::NH,
+            Suite::Ctr32 => Aes128CtrHmacSha256Tag32::NH,
+            Suite::Gcm128 => Aes128GcmSha256::NH,
+            Suite::Gcm256 => Aes256GcmSha512::NH,
+        }
     }
 
     // Nk, the bytes of the key.
     pub fn key_size(self) -> usize
         ensures { result ≡ Nk self }
     {
-        self.row().nk
+        match self {
+            Suite::Ctr80 => Aes128CtrHmacSha256Tag80::NK,
+            Suite::Ctr64 => Aes128CtrHmacSha256Tag64::NK,
+            Suite::Ctr32 => Aes128CtrHmacSha256Tag32::NK,
+            Suite::Gcm128 => Aes128GcmSha256::NK,
+            Suite::Gcm256 => Aes256GcmSha512::NK,
+        }
     }
 
     // Nn, the bytes of the nonce and of the salt.
     pub fn nonce_size(self) -> usize
         ensures { result ≡ Nn }
     {
-        Suite::NN
+        match self {
+            Suite::Ctr80 => Aes128CtrHmacSha256Tag80::NN,
+            Suite::Ctr64 => Aes128CtrHmacSha256Tag64::NN,
+            Suite::Ctr32 => Aes128CtrHmacSha256Tag32::NN,
+            Suite::Gcm128 => Aes128GcmSha256::NN,
+            Suite::Gcm256 => Aes256GcmSha512::NN,
+        }
     }
 
     // Nt, the bytes of the tag.
     pub fn tag_size(self) -> usize
         ensures { result ≡ Nt self }
     {
-        self.row().nt
+        match self {
+            Suite::Ctr80 => Aes128CtrHmacSha256Tag80::NT,
+            Suite::Ctr64 => Aes128CtrHmacSha256Tag64::NT,
+            Suite::Ctr32 => Aes128CtrHmacSha256Tag32::NT,
+            Suite::Gcm128 => Aes128GcmSha256::NT,
+            Suite::Gcm256 => Aes256GcmSha512::NT,
+        }
     }
 
     // The bytes of the key that AES takes: Nka where HMAC takes the others, else Nk.
     pub fn cipher_key_size(self) -> usize
         ensures { result ≡ cipher_key_size self }
     {
-        match self.mode() {
-            Mode::CtrHmac => self.row().nka,
-            Mode::Gcm => self.row().nk,
+        match self {
+            Suite::Ctr80 => Aes128CtrHmacSha256Tag80::NKA,
+            Suite::Ctr64 => Aes128CtrHmacSha256Tag64::NKA,
+            Suite::Ctr32 => Aes128CtrHmacSha256Tag32::NKA,
+            Suite::Gcm128 => Aes128GcmSha256::NK,
+            Suite::Gcm256 => Aes256GcmSha512::NK,
         }
     }
 
     pub fn mode(self) -> Mode
         ensures { result ≡ mode_of self }
     {
-        self.row().mode
+        match self {
+            Suite::Ctr80 => Mode::CtrHmac,
+            Suite::Ctr64 => Mode::CtrHmac,
+            Suite::Ctr32 => Mode::CtrHmac,
+            Suite::Gcm128 => Mode::Gcm,
+            Suite::Gcm256 => Mode::Gcm,
+        }
     }
 
     pub fn hash(self) -> Hash
         ensures { params_of result ≡ hash_of self }
     {
-        self.row().hash
+        match self {
+            Suite::Ctr80 => Hash::Sha256,
+            Suite::Ctr64 => Hash::Sha256,
+            Suite::Ctr32 => Hash::Sha256,
+            Suite::Gcm128 => Hash::Sha256,
+            Suite::Gcm256 => Hash::Sha512,
+        }
     }
 }

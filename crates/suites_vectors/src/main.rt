@@ -11,14 +11,14 @@ use sframe_test::cipher_suites::{
 };
 use std::alloc::{AllocError, Global};
 use std::io::{self, Read};
-use suites::Suite;
+use suites::sizes::Aes128CtrHmacSha256Tag80;
 use vector_text::Tally;
 
 // The most bytes of standard input that are judged.
 const MOST: u64 = 65536;
 
 // The bytes of a salt and of a nonce.
-const NN: usize = Suite::NN;
+const NN: usize = Aes128CtrHmacSha256Tag80::NN;
 
 // The bytes of the longest input or result.
 const ROOM: usize = 80;

@@ -8,7 +8,7 @@ ghost use Rattle.track_record.specs.Inner.Rows.{held_of, with_last};
 
 use crate::row::{held_in, key_id_of, key_of, name_of, salt_of, start, write_pair};
 use crate::{FLAG, KEY, Kind, PAIR_GROUP, PAIR_OBJECT, RECORD_SIZE, SALT};
-use secure_objects::{GroupId, ObjectId};
+use secure_objects::{GroupId, ObjectId, Pair};
 use suites::Suite;
 
 // Whether every byte is zero.
@@ -31,7 +31,11 @@ fn write_last(out: &mut [u8], row: &[u8])
     }
     let group = octets::read_be64(&row[PAIR_GROUP..]);
     let object = octets::read_be32(&row[PAIR_OBJECT..]) as u64;
-    write_pair(out, GroupId(group), ObjectId(object));
+    let pair = Pair {
+        group: GroupId(group),
+        object: ObjectId(object),
+    };
+    write_pair(out, pair);
 }
 
 // Writes what a record's bytes read as, which is a track, to out.

@@ -12,7 +12,7 @@ use crate::{
     FLAG, KEY, KEY_ID, Kind, MARK, NAME, NAME_LENGTH, PAIR_GROUP, PAIR_OBJECT, RECEIVER, RETIRED,
     Role, SALT, SENDER, SUITE,
 };
-use secure_objects::{GroupId, KeyId, MAX_NAME, ObjectId, derivation};
+use secure_objects::{KeyId, MAX_NAME, Pair, derivation};
 use suites::Suite;
 
 // What a mark stands for.
@@ -109,18 +109,18 @@ pub fn holds(row: &[u8], name: &[u8], id: KeyId) -> bool
 
 // Whether the counter of a pair is below the floor of a record that is not empty: a pair was sealed, and this one is not above
 // it.
-pub fn is_below(row: &[u8], group: GroupId, object: ObjectId) -> bool
-    requires { (length row.now ≡ record_size) × (is_empty (decode row.now) ≡ false) × (object.0 < object_ceiling) }
-    ensures { result ≡ ltb (counter group.0 object.0) (floor_of (decode row.now)) }
+pub fn is_below(row: &[u8], pair: Pair) -> bool
+    requires { (length row.now ≡ record_size) × (is_empty (decode row.now) ≡ false) × (pair.object.0 < object_ceiling) }
+    ensures { result ≡ ltb (counter pair.group.0 pair.object.0) (floor_of (decode row.now)) }
 {
     if row[FLAG] == 0 {
         return false;
     }
     let last = octets::read_be64(&row[PAIR_GROUP..]);
-    if group.0 != last {
-        return group.0 < last;
+    if pair.group.0 != last {
+        return pair.group.0 < last;
     }
-    object.0 <= octets::read_be32(&row[PAIR_OBJECT..]) as u64
+    pair.object.0 <= octets::read_be32(&row[PAIR_OBJECT..]) as u64
 }
 
 // The salt of a record that is not empty.
@@ -153,12 +153,12 @@ pub fn start(row: &mut [u8], kind: Kind, suite: Suite, name: &[u8], id: KeyId)
 }
 
 // Writes a pair to a record as the last one sealed.
-pub fn write_pair(row: &mut [u8], group: GroupId, object: ObjectId)
-    requires { (length row.old ≡ record_size) × (object.0 < object_ceiling) }
-    ensures { row.new ≡ with_pair (counter group.0 object.0) row.old }
+pub fn write_pair(row: &mut [u8], pair: Pair)
+    requires { (length row.old ≡ record_size) × (pair.object.0 < object_ceiling) }
+    ensures { row.new ≡ with_pair (counter pair.group.0 pair.object.0) row.old }
 {
-    octets::write_be_at(row, PAIR_GROUP, 8, group.0);
-    octets::write_be_at(row, PAIR_OBJECT, 4, object.0);
+    octets::write_be_at(row, PAIR_GROUP, 8, pair.group.0);
+    octets::write_be_at(row, PAIR_OBJECT, 4, pair.object.0);
     row[FLAG] = 1;
 }
 
@@ -174,11 +174,11 @@ pub fn fill(row: &mut [u8], role: Role, suite: Suite, name: &[u8], id: KeyId, ba
 }
 
 // Takes a pair for sealed in a sending record.
-pub fn advance(row: &mut [u8], group: GroupId, object: ObjectId)
-    requires { (Row row.old) × (is_empty (decode row.old) ≡ false) × (object.0 < object_ceiling) }
-    ensures { row.new ≡ encode (advanced (counter group.0 object.0) (decode row.old)) }
+pub fn advance(row: &mut [u8], pair: Pair)
+    requires { (Row row.old) × (is_empty (decode row.old) ≡ false) × (pair.object.0 < object_ceiling) }
+    ensures { row.new ≡ encode (advanced (counter pair.group.0 pair.object.0) (decode row.old)) }
 {
-    write_pair(row, group, object);
+    write_pair(row, pair);
 }
 
 // Retires a record that is not empty.

@@ -14,7 +14,7 @@ ghost use Rattle.tracks.specs.Table.{alone, apart};
 ghost use Rattle.tracks.specs.Inner.Places.{Whole, part_at, rows_obey, Within, RowOf, FoundIn, FreeIn};
 
 use answers::Refusal;
-use secure_objects::{GroupId, KeyId, ObjectId};
+use secure_objects::{KeyId, Pair};
 use suites::Suite;
 use track_record::{Kind, RECORD_SIZE, Role, judging, row};
 
@@ -144,13 +144,13 @@ pub fn fill_at(
 }
 
 // Takes a pair for sealed in record i, which is not empty.
-pub fn advance_at(store: &mut [u8], i: usize, group: GroupId, object: ObjectId)
-    requires { (Within store.old i) × (is_empty (get_or (records store.old) i empty) ≡ false) × (object.0 < object_ceiling) }
-    ensures { store.new ≡ encode_all (set (records store.old) i (advanced (counter group.0 object.0) (get_or (records store.old) i empty))) }
+pub fn advance_at(store: &mut [u8], i: usize, pair: Pair)
+    requires { (Within store.old i) × (is_empty (get_or (records store.old) i empty) ≡ false) × (pair.object.0 < object_ceiling) }
+    ensures { store.new ≡ encode_all (set (records store.old) i (advanced (counter pair.group.0 pair.object.0) (get_or (records store.old) i empty))) }
 {
     let at = i * RECORD_SIZE;
     let end = at + RECORD_SIZE;
-    row::advance(&mut store[at..end], group, object);
+    row::advance(&mut store[at..end], pair);
 }
 
 // Retires record i, which is not empty.

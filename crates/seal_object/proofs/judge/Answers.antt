@@ -15,19 +15,19 @@ returns-in_err-kind c =
 
 pub returns-then-not-seals : goal.returns-then-not-seals
 returns-then-not-seals c =
-    judged-role (decode c.args.row.now) c.args.group.0 c.args.object.0 c.args.properties c.args.plaintext c.args.room _ _ (told (decode c.args.row.now) _ _ _ c.held_in.ensures c.in_ok-kind.ensures.ok_part) _ c.seals.ensures (ap not c.if-not-seals.true)
+    judged-role (decode c.args.row.now) c.args.pair.group.0 c.args.pair.object.0 c.args.properties c.args.plaintext c.args.room _ _ (told (decode c.args.row.now) _ _ _ c.held_in.ensures c.in_ok-kind.ensures.ok_part) _ c.seals.ensures (ap not c.if-not-seals.true)
 
-pub returns-then-object-ge-OBJECT_CEILING : goal.returns-then-object-ge-OBJECT_CEILING
-returns-then-object-ge-OBJECT_CEILING c =
-    judged-object (decode c.args.row.now) c.args.group.0 c.args.object.0 c.args.properties c.args.plaintext c.args.room _ _ (told (decode c.args.row.now) _ _ _ c.held_in.ensures c.in_ok-kind.ensures.ok_part) _ c.seals.ensures (ap not c.if-not-seals.false) c.if-object-ge-OBJECT_CEILING.true
+pub returns-then-pair-ge-OBJECT_CEILING : goal.returns-then-pair-ge-OBJECT_CEILING
+returns-then-pair-ge-OBJECT_CEILING c =
+    judged-object (decode c.args.row.now) c.args.pair.group.0 c.args.pair.object.0 c.args.properties c.args.plaintext c.args.room _ _ (told (decode c.args.row.now) _ _ _ c.held_in.ensures c.in_ok-kind.ensures.ok_part) _ c.seals.ensures (ap not c.if-not-seals.false) c.if-pair-ge-OBJECT_CEILING.true
 
 pub returns-then-is_below : goal.returns-then-is_below
 returns-then-is_below c =
-    judged-pair (decode c.args.row.now) c.args.group.0 c.args.object.0 c.args.properties c.args.plaintext c.args.room _ _ (told (decode c.args.row.now) _ _ _ c.held_in.ensures c.in_ok-kind.ensures.ok_part) _ c.seals.ensures (ap not c.if-not-seals.false) c.if-object-ge-OBJECT_CEILING.false _ c.is_below.ensures c.if-is_below.true
+    judged-pair (decode c.args.row.now) c.args.pair.group.0 c.args.pair.object.0 c.args.properties c.args.plaintext c.args.room _ _ (told (decode c.args.row.now) _ _ _ c.held_in.ensures c.in_ok-kind.ensures.ok_part) _ c.seals.ensures (ap not c.if-not-seals.false) c.if-pair-ge-OBJECT_CEILING.false _ c.is_below.ensures c.if-is_below.true
 
 pub returns-then-too_long : goal.returns-then-too_long
 returns-then-too_long c =
-    judged-long (decode c.args.row.now) c.args.group.0 c.args.object.0 c.args.properties c.args.plaintext c.args.room _ _ (told (decode c.args.row.now) _ _ _ c.held_in.ensures c.in_ok-kind.ensures.ok_part) _ c.seals.ensures (ap not c.if-not-seals.false) c.if-object-ge-OBJECT_CEILING.false _ c.is_below.ensures c.if-is_below.false _ c.too_long.ensures c.if-too_long.true
+    judged-long (decode c.args.row.now) c.args.pair.group.0 c.args.pair.object.0 c.args.properties c.args.plaintext c.args.room _ _ (told (decode c.args.row.now) _ _ _ c.held_in.ensures c.in_ok-kind.ensures.ok_part) _ c.seals.ensures (ap not c.if-not-seals.false) c.if-pair-ge-OBJECT_CEILING.false _ c.is_below.ensures c.if-is_below.false _ c.too_long.ensures c.if-too_long.true
 
 pub overflow_add-plaintext : goal.overflow_add-plaintext
 overflow_add-plaintext c =
@@ -35,8 +35,8 @@ overflow_add-plaintext c =
 
 pub returns-then-room-plaintext : goal.returns-then-room-plaintext
 returns-then-room-plaintext c =
-    judged-room (decode c.args.row.now) c.args.group.0 c.args.object.0 c.args.properties c.args.plaintext c.args.room _ _ (told (decode c.args.row.now) _ _ _ c.held_in.ensures c.in_ok-kind.ensures.ok_part) _ c.seals.ensures (ap not c.if-not-seals.false) c.if-object-ge-OBJECT_CEILING.false _ c.is_below.ensures c.if-is_below.false _ c.too_long.ensures c.if-too_long.false _ c.tag_size.ensures c.if-room-plaintext.true
+    judged-room (decode c.args.row.now) c.args.pair.group.0 c.args.pair.object.0 c.args.properties c.args.plaintext c.args.room _ _ (told (decode c.args.row.now) _ _ _ c.held_in.ensures c.in_ok-kind.ensures.ok_part) _ c.seals.ensures (ap not c.if-not-seals.false) c.if-pair-ge-OBJECT_CEILING.false _ c.is_below.ensures c.if-is_below.false _ c.too_long.ensures c.if-too_long.false _ c.tag_size.ensures c.if-room-plaintext.true
 
 pub returns : goal.returns
 returns c =
-    judged-done (decode c.args.row.now) c.args.group.0 c.args.object.0 c.args.properties c.args.plaintext c.args.room _ _ (told (decode c.args.row.now) _ _ _ c.held_in.ensures c.in_ok-kind.ensures.ok_part) _ c.seals.ensures (ap not c.if-not-seals.false) c.if-object-ge-OBJECT_CEILING.false _ c.is_below.ensures c.if-is_below.false _ c.too_long.ensures c.if-too_long.false _ c.tag_size.ensures c.if-room-plaintext.false
+    judged-done (decode c.args.row.now) c.args.pair.group.0 c.args.pair.object.0 c.args.properties c.args.plaintext c.args.room _ _ (told (decode c.args.row.now) _ _ _ c.held_in.ensures c.in_ok-kind.ensures.ok_part) _ c.seals.ensures (ap not c.if-not-seals.false) c.if-pair-ge-OBJECT_CEILING.false _ c.is_below.ensures c.if-is_below.false _ c.too_long.ensures c.if-too_long.false _ c.tag_size.ensures c.if-room-plaintext.false

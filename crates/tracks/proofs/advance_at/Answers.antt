@@ -29,4 +29,4 @@ advance-requires c = let q = place-row c.args.store.now c.args.i c.requires.0 _ 
 
 pub returns : goal.returns
 returns c =
-    let q = place-row c.args.store.now c.args.i c.requires.0 _ refl in place-changed c.args.store.now c.args.i c.requires.0 _ refl (λ j. omega (arith, c.slice_known-1.given j)) _ _ _ refl (c.advance.ensures ∙ ap (λ (r : TrackRecord). encode (advanced (counter c.args.group.0 c.args.object.0) r)) q.1)
+    let q = place-row c.args.store.now c.args.i c.requires.0 _ refl in place-changed c.args.store.now c.args.i c.requires.0 _ refl (λ j. omega (arith, c.slice_known-1.given j)) _ _ _ refl (c.advance.ensures ∙ ap (λ (r : TrackRecord). encode (advanced (counter c.args.pair.group.0 c.args.pair.object.0) r)) q.1)

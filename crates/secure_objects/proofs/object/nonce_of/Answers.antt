@@ -7,6 +7,6 @@ use Rattle.secure_objects.proofs.object.nonce_of.Goals as goal
 pub returns : goal.returns
 returns c =
     let a = c.args in (
-      nonce-made _ _ _ _ _ _ a.salt.now a.group.0 a.object.0 (omega arith) c.requires.0 (omega arith) c.requires.1 c.write_be_at.ensures c.write_be_at-2.ensures c.copy.ensures c.xor.ensures,
+      nonce-made _ _ _ _ _ _ a.salt.now a.pair.group.0 a.pair.object.0 (omega arith) c.requires.0 (omega arith) c.requires.1 c.write_be_at.ensures c.write_be_at-2.ensures c.copy.ensures c.xor.ensures,
       c.xor.auto.out ∙ c.copy.auto.out,
     )

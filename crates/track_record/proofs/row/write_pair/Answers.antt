@@ -11,4 +11,4 @@ shape_of-row c =
 pub returns : goal.returns
 returns c =
     let a = c.args in
-    pair-written a.row.now _ _ a.group.0 a.object.0 c.requires.1 c.requires.0 c.write_be_at.ensures c.write_be_at-2.ensures
+    pair-written a.row.now _ _ a.pair.group.0 a.pair.object.0 c.requires.1 c.requires.0 c.write_be_at.ensures c.write_be_at-2.ensures
