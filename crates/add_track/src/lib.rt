@@ -12,7 +12,8 @@ use secure_objects::{KeyId, MAX_NAME};
 use suites::sizes::Aes128CtrHmacSha256Tag32;
 use track_record::Role;
 
-// Whether no track of that role and suite is added: the suite with tags of 4 bytes is for receiving alone.
+// Whether no track of that role and suite is added: the suite with tags of 4 bytes is for receiving alone. As for the keys of SFrame,
+// over a role of its own, since neither store stands on the other.
 fn is_barred(role: Role, suite: u64) -> bool
     ensures { result ≡ barred role suite }
 {

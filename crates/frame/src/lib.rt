@@ -19,7 +19,8 @@ pub struct Fields {
     pub length: usize,
 }
 
-// A frame, with what its header says. A length of 0 means that the header is refused.
+// A frame, with what its header says. A length of 0 means that the header is refused: no Option, as each function below answers for
+// any frame.
 #[derive(Clone, Copy)]
 pub struct FrameReader<'a> {
     pub kid: Kid,

@@ -52,6 +52,7 @@ pub extern "C" fn moq_make(store: &mut [u8]) -> u32
     number(tracks::make(store))
 }
 
+// Two functions for the two roles, as C knows no role.
 #[unsafe(no_mangle)]
 pub extern "C" fn moq_add_sending(
     store: &mut [u8],

@@ -68,7 +68,7 @@ pub fn read_be64(b: &[u8]) -> u64
     u64::from_be_bytes([b[0], b[1], b[2], b[3], b[4], b[5], b[6], b[7]])
 }
 
-// Writes x as 4 bytes to the front of out.
+// Writes x as 4 bytes to the front of out. Beside `write_be64`, as no trait of the library has `to_be_bytes`.
 pub fn write_be32(out: &mut [u8], x: u32)
     requires { 4 ≤ length out.old }
     ensures { out.new ≡ bytes 4 x ++ drop 4 out.old }

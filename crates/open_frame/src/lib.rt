@@ -73,7 +73,9 @@ fn open_with(
     if too_long(m, metadata.len()) {
         return Err(Refusal::InputTooLong);
     }
-    let length = judge_open::room_for(room.len(), m).ok_or(Refusal::RoomShort)?;
+    let Some(length) = judge_open::room_for(room.len(), m) else {
+        return Err(Refusal::RoomShort);
+    };
     judge_open::judge_counter(row, head.ctr)?;
     if !decrypt_with(row, suite, head, metadata, frame, room) {
         return Err(Refusal::TagDiffers);
@@ -96,8 +98,12 @@ pub fn open(
     if !store::is_sound(store) {
         return Err(Refusal::StoreInvalid);
     }
-    let head = header::read_header(frame).ok_or(Refusal::HeaderInvalid)?;
-    let i = store::find_near(store, head.kid, place).ok_or(Refusal::KidMissing)?;
+    let Some(head) = header::read_header(frame) else {
+        return Err(Refusal::HeaderInvalid);
+    };
+    let Some(i) = store::find_near(store, head.kid, place) else {
+        return Err(Refusal::KidMissing);
+    };
     let m = open_with(store::row_at(store, i), head, metadata, frame, room)?;
     store::note_at(store, i, head.ctr);
     Ok(m)

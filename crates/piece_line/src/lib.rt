@@ -78,7 +78,7 @@ fn take_hmac(suite: Suite, state: &mut [u8], c: &[u8])
     count(state, taken, c.len());
 }
 
-// The same with GCM and its hash key.
+// The same with GCM and its hash key: another hash, with another state, so that the two are no one function.
 fn take_gcm(suite: Suite, h: &ghash::HashKey, state: &mut [u8], c: &[u8])
     requires state_size_in_bounds { (state_size ≤ length state.old) × (mode_of suite ≡ Gcm) × (taken_in state.old + length c.now ≤ max_plaintext) }
     requires hash_key { HashKey (hash_key (key_in suite state.old)) h.now }

@@ -36,7 +36,7 @@ const RECEIVER: u8 = 2;
 
 const RETIRED: u8 = 3;
 
-// What a track is added for.
+// What a track is added for. A type of its own, since this store does not stand on that of SFrame's keys.
 #[derive(Clone, Copy, PartialEq, Eq)]
 pub enum Role {
     Sending,

@@ -4,7 +4,7 @@ use mathlib.Core.Bool.{true}
 use native.Mathlib.Omega.{arith}
 use Rattle.octets.specs.Octets.{Octets}
 use Rattle.header.proofs.Laws.{header_read}
-use Rattle.answers.proofs.Refusals.{given, missing, missing-number, nothing-written, refused-some, done-number, handed-on, none-written, all-written}
+use Rattle.answers.proofs.Refusals.{nothing-written, refused-some, done-number, handed-on, none-written, all-written}
 use Rattle.store.specs.Store.{sound}
 use Rattle.store.proofs.Places.{tested-sound, found_within}
 use Rattle.judge_open.proofs.Steps.{open-unsound, open-invalid, open-missing, held-there, open-refused, open-clear, open_done}
@@ -16,53 +16,53 @@ pub returns-then-not-is_sound : goal.returns-then-not-is_sound
 returns-then-not-is_sound c =
     let q = open-unsound c.args.store.now c.args.metadata.now c.args.frame.now c.args.room.now _ c.is_sound.ensures (ap not c.if-not-is_sound.true) in record { number_value = q.0; store_after = q.1.0; room_after = q.1.1 }
 
-pub returns-in_err-head : goal.returns-in_err-head
-returns-in_err-head c =
-    let q = open-invalid c.args.store.now c.args.metadata.now c.args.frame.now c.args.room.now _ c.is_sound.ensures (ap not c.if-not-is_sound.false) (sym c.read_header.ensures ∙ missing _ _ _ c.ok_or.ensures.value _ c.in_err-head.was) in record { number_value = (missing-number _ _ _ c.ok_or.ensures.value c.from_residual.result _ c.in_err-head.was c.from_residual.ensures.1 ∙ q.0.0, nothing-written c.from_residual.result _ c.from_residual.ensures.1 ∙ q.0.1); store_after = q.1.0; room_after = q.1.1 }
+pub returns-in_default : goal.returns-in_default
+returns-in_default c =
+    let q = open-invalid c.args.store.now c.args.metadata.now c.args.frame.now c.args.room.now _ c.is_sound.ensures (ap not c.if-not-is_sound.false) (sym c.read_header.ensures ∙ c.in_default.is) in record { number_value = q.0; store_after = q.1.0; room_after = q.1.1 }
 
 pub find_near-requires : goal.find_near-requires
 find_near-requires c =
     let store-octets : Octets c.args.store.now = λ j. omega (arith, c.slice_known-1.given j) in
     tested-sound c.args.store.now (store-octets) _ c.is_sound.ensures (ap not c.if-not-is_sound.false)
 
-pub returns-in_err-i : goal.returns-in_err-i
-returns-in_err-i c =
+pub returns-in_default-find_near : goal.returns-in_default-find_near
+returns-in_default-find_near c =
     let store-octets : Octets c.args.store.now = λ j. omega (arith, c.slice_known-1.given j) in
     let store-sound : sound c.args.store.now ≡ true = tested-sound c.args.store.now (store-octets) _ c.is_sound.ensures (ap not c.if-not-is_sound.false) in
-    let q = open-missing c.args.store.now c.args.metadata.now c.args.frame.now c.args.room.now _ _ _ (store-sound) (sym c.read_header.ensures ∙ given _ _ _ c.ok_or.ensures.value _ c.in_ok-head.was) _ c.find_near.ensures (missing _ _ _ c.ok_or-2.ensures.value _ c.in_err-i.was) in record { number_value = (missing-number _ _ _ c.ok_or-2.ensures.value c.from_residual-in_err-i.result _ c.in_err-i.was c.from_residual-in_err-i.ensures.1 ∙ q.0.0, nothing-written c.from_residual-in_err-i.result _ c.from_residual-in_err-i.ensures.1 ∙ q.0.1); store_after = q.1.0; room_after = q.1.1 }
+    let q = open-missing c.args.store.now c.args.metadata.now c.args.frame.now c.args.room.now _ _ _ (store-sound) (sym c.read_header.ensures ∙ c.in-Some.is) _ c.find_near.ensures c.in_default-find_near.is in record { number_value = q.0; store_after = q.1.0; room_after = q.1.1 }
 
 pub row_at-requires : goal.row_at-requires
 row_at-requires c =
     let store-octets : Octets c.args.store.now = λ j. omega (arith, c.slice_known-1.given j) in
     let store-sound : sound c.args.store.now ≡ true = tested-sound c.args.store.now (store-octets) _ c.is_sound.ensures (ap not c.if-not-is_sound.false) in
-    found_within c.args.store.now _ _ _ (store-sound) c.find_near.ensures (given _ _ _ c.ok_or-2.ensures.value _ c.in_ok-i.was)
+    found_within c.args.store.now _ _ _ (store-sound) c.find_near.ensures c.in-Some-find_near.is
 
 pub open_with-requires : goal.open_with-requires
 open_with-requires c =
     let store-octets : Octets c.args.store.now = λ j. omega (arith, c.slice_known-1.given j) in
     let store-sound : sound c.args.store.now ≡ true = tested-sound c.args.store.now (store-octets) _ c.is_sound.ensures (ap not c.if-not-is_sound.false) in
-    let reads = sym c.read_header.ensures ∙ given _ _ _ c.ok_or.ensures.value _ c.in_ok-head.was in
+    let reads = sym c.read_header.ensures ∙ c.in-Some.is in
     let h = header_read c.args.frame.now _ _ _ (λ j. omega (arith, c.shared_slice_known-1.given j)) reads in
-    (c.row_at.ensures.0, held-there c.args.store.now c.args.metadata.now c.args.frame.now c.args.room.now _ _ _ (store-sound) reads _ c.find_near.ensures _ (given _ _ _ c.ok_or-2.ensures.value _ c.in_ok-i.was) _ c.row_at.ensures, h.most, h.inside)
+    (c.row_at.ensures.0, held-there c.args.store.now c.args.metadata.now c.args.frame.now c.args.room.now _ _ _ (store-sound) reads _ c.find_near.ensures _ c.in-Some-find_near.is _ c.row_at.ensures, h.most, h.inside)
 
 pub returns-in_err-m : goal.returns-in_err-m
 returns-in_err-m c =
     let store-octets : Octets c.args.store.now = λ j. omega (arith, c.slice_known-1.given j) in
     let store-sound : sound c.args.store.now ≡ true = tested-sound c.args.store.now (store-octets) _ c.is_sound.ensures (ap not c.if-not-is_sound.false) in
-    let reads = sym c.read_header.ensures ∙ given _ _ _ c.ok_or.ensures.value _ c.in_ok-head.was in
-    let answered = open-refused c.args.store.now c.args.metadata.now c.args.frame.now c.args.room.now _ _ _ (store-sound) reads _ c.find_near.ensures _ (given _ _ _ c.ok_or-2.ensures.value _ c.in_ok-i.was) _ c.row_at.ensures _ _ _ c.open_with.ensures.number_value c.open_with.ensures.room_after (refused-some _ _ c.in_err-m.was) in record { number_value = (handed-on _ c.from_residual-in_err-m.result _ c.in_err-m.was c.from_residual-in_err-m.ensures.1 ∙ answered.0.0, nothing-written c.from_residual-in_err-m.result _ c.from_residual-in_err-m.ensures.1 ∙ sym (none-written _ _ c.in_err-m.was) ∙ answered.0.1); store_after = answered.1.0; room_after = answered.1.1 }
+    let reads = sym c.read_header.ensures ∙ c.in-Some.is in
+    let answered = open-refused c.args.store.now c.args.metadata.now c.args.frame.now c.args.room.now _ _ _ (store-sound) reads _ c.find_near.ensures _ c.in-Some-find_near.is _ c.row_at.ensures _ _ _ c.open_with.ensures.number_value c.open_with.ensures.room_after (refused-some _ _ c.in_err-m.was) in record { number_value = (handed-on _ c.from_residual.result _ c.in_err-m.was c.from_residual.ensures.1 ∙ answered.0.0, nothing-written c.from_residual.result _ c.from_residual.ensures.1 ∙ sym (none-written _ _ c.in_err-m.was) ∙ answered.0.1); store_after = answered.1.0; room_after = answered.1.1 }
 
 pub note_at-requires : goal.note_at-requires
 note_at-requires c =
     let store-octets : Octets c.args.store.now = λ j. omega (arith, c.slice_known-1.given j) in
     let store-sound : sound c.args.store.now ≡ true = tested-sound c.args.store.now (store-octets) _ c.is_sound.ensures (ap not c.if-not-is_sound.false) in
-    let reads = sym c.read_header.ensures ∙ given _ _ _ c.ok_or.ensures.value _ c.in_ok-head.was in
-    let q = open-clear c.args.store.now c.args.metadata.now c.args.frame.now c.args.room.now _ _ _ (store-sound) reads _ c.find_near.ensures _ (given _ _ _ c.ok_or-2.ensures.value _ c.in_ok-i.was) _ c.row_at.ensures _ _ _ c.open_with.ensures.number_value c.open_with.ensures.room_after (done-number _ _ c.in_ok-m.was) in
-    (found_within c.args.store.now _ _ _ (store-sound) c.find_near.ensures (given _ _ _ c.ok_or-2.ensures.value _ c.in_ok-i.was), q.0, q.1, q.2)
+    let reads = sym c.read_header.ensures ∙ c.in-Some.is in
+    let q = open-clear c.args.store.now c.args.metadata.now c.args.frame.now c.args.room.now _ _ _ (store-sound) reads _ c.find_near.ensures _ c.in-Some-find_near.is _ c.row_at.ensures _ _ _ c.open_with.ensures.number_value c.open_with.ensures.room_after (done-number _ _ c.in_ok-m.was) in
+    (found_within c.args.store.now _ _ _ (store-sound) c.find_near.ensures c.in-Some-find_near.is, q.0, q.1, q.2)
 
 pub returns : goal.returns
 returns c =
     let store-octets : Octets c.args.store.now = λ j. omega (arith, c.slice_known-1.given j) in
     let store-sound : sound c.args.store.now ≡ true = tested-sound c.args.store.now (store-octets) _ c.is_sound.ensures (ap not c.if-not-is_sound.false) in
-    let reads = sym c.read_header.ensures ∙ given _ _ _ c.ok_or.ensures.value _ c.in_ok-head.was in
-    let answered = open_done c.args.store.now c.args.metadata.now c.args.frame.now c.args.room.now _ _ _ (store-sound) reads _ c.find_near.ensures _ (given _ _ _ c.ok_or-2.ensures.value _ c.in_ok-i.was) _ c.row_at.ensures _ _ _ c.open_with.ensures.number_value c.open_with.ensures.room_after (done-number _ _ c.in_ok-m.was) (store-octets) _ c.note_at.ensures in record { number_value = (sym (done-number _ _ c.in_ok-m.was) ∙ answered.0.0, sym (all-written _ _ c.in_ok-m.was) ∙ answered.0.1); store_after = answered.1.0; room_after = answered.1.1 }
+    let reads = sym c.read_header.ensures ∙ c.in-Some.is in
+    let answered = open_done c.args.store.now c.args.metadata.now c.args.frame.now c.args.room.now _ _ _ (store-sound) reads _ c.find_near.ensures _ c.in-Some-find_near.is _ c.row_at.ensures _ _ _ c.open_with.ensures.number_value c.open_with.ensures.room_after (done-number _ _ c.in_ok-m.was) (store-octets) _ c.note_at.ensures in record { number_value = (sym (done-number _ _ c.in_ok-m.was) ∙ answered.0.0, sym (all-written _ _ c.in_ok-m.was) ∙ answered.0.1); store_after = answered.1.0; room_after = answered.1.1 }
