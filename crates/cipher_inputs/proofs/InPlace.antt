@@ -9,7 +9,7 @@ use lib.Seq.{take-take}
 use Rattle.octets.specs.Octets.{bytes, xors, pasted}
 use Rattle.aes.specs.Aes.{blocks}
 use Rattle.aes.specs.Aes as Aes
-use Rattle.gcm.specs.Counter.{counter_block, key_stream, ctr}
+use Rattle.gcm.specs.Counter.{counter_block, key_stream, ctr, ctr_from}
 use Rattle.gcm.specs.Gcm.{hash_key, gcm_tag}
 use Rattle.suites.specs.declared.sizes.Suite.{Suite}
 use Rattle.suites.specs.declared.sizes.Suite.TheVariants.{Ctr80, Ctr64, Ctr32, Gcm128, Gcm256}
@@ -20,7 +20,6 @@ use Rattle.aead.specs.Aead as Aead
 use Rattle.aead.specs.Aead.{cipher_key, first_count, ciphertext}
 use Rattle.suites.proofs.Laws.{ctr-not-gcm}
 use Rattle.aead.proofs.Laws.{whole-key}
-use Rattle.piece_stream.specs.CounterFrom.{ctr_from}
 use Rattle.piece_line.specs.State.{aad_in, taken_in, nonce_in, key_in, hash_in}
 use Rattle.piece_line.specs.Line.{hash_after, front, key_field, state_after, begun, hash_more, after, cipher_piece, tag_from, tag_in}
 use Rattle.cipher_inputs.specs.AnyCipher.{aes, stream_by, hash_key_by, mask_by, ciphertext_by, tag_by, aead_by, hash_after_by, begun_by, cipher_piece_by, hash_more_by, after_by, tag_from_by, tag_in_by}
