@@ -71,21 +71,23 @@ module _ (s x : List ℕ) (to from end : ℕ) (below : to ≤ from) (inside : fr
 pub staying : (E bits n : ℕ) (s : List ℕ) → List ℕ
 staying E bits n s = encode_all (others E bits (take n (records s)))
 
--- where the first bytes of s were read, up to from, and written, up to to
-pub record Gathered (E bits : ℕ) (s t : List ℕ) (to from : ℕ) : Type 0 where
-  pub inside : from ≤ length s
-  pub whole : from % record_size ≡ 0
-  pub below : to ≤ from
-  pub written : to ≡ length (staying E bits (from / record_size) s)
-  pub bytes-are : t ≡ staying E bits (from / record_size) s ++ drop to s
+-- where the first i records of s were read, and those of them that stay written, up to to
+pub record Gathered (E bits : ℕ) (s t : List ℕ) (to i : ℕ) : Type 0 where
+  pub inside : i * record_size ≤ length s
+  pub below : to ≤ i * record_size
+  pub written : to ≡ length (staying E bits i s)
+  pub bytes-are : t ≡ staying E bits i s ++ drop to s
 
 pub gathered_none : (E bits : ℕ) (s : List ℕ) → Gathered E bits s s 0 0
 unfolding staying others encode_all
-gathered_none E bits s = record { inside = omega arith; whole = refl; below = omega arith; written = refl; bytes-are = refl }
+gathered_none E bits s = record { inside = omega arith; below = omega arith; written = refl; bytes-are = refl }
 
-module _ (E bits : ℕ) (s : List ℕ) (o : Octets s) (is-sound : sound s ≡ true) (t : List ℕ) (to from end : ℕ) (g : Gathered E bits s t to from) (next : end ≡ from + record_size) where
-  abbrev i : ℕ
-  i = from / record_size
+module _ (E bits : ℕ) (s : List ℕ) (o : Octets s) (is-sound : sound s ≡ true) (t : List ℕ) (to i : ℕ) (g : Gathered E bits s t to i) where
+  abbrev from : ℕ
+  from = i * record_size
+
+  abbrev end : ℕ
+  end = from + record_size
 
   abbrev r : KeyRecord
   r = get_or (records s) i empty
@@ -106,56 +108,46 @@ module _ (E bits : ℕ) (s : List ℕ) (o : Octets s) (is-sound : sound s ≡ tr
       ∙ drop-drop (from - to) to s
       ∙ ap (λ (k : ℕ). drop k s) f
 
-  module _ (more : from < length t) where
-    at_row : i * record_size ≡ from
-    at_row = omega (arith, g.whole)
-
+  module _ (more : i < length s / record_size) where
     within : Within s i
-    within = (is-sound, omega (arith, more, same_length, count, at_row))
+    within = (is-sound, omega (arith, more, count))
 
     pub room : end ≤ length t
-    room = omega (arith, more, same_length, count, at_row)
+    room = omega (arith, more, same_length)
 
-    row_is : take (end - from) (drop from t) ≡ take (end - i * record_size) (drop (i * record_size) s)
-    row_is = ap (take (end - from)) unread ∙ ap (λ (k : ℕ). take (end - k) (drop k s)) (sym at_row)
-
-    next_row : end ≡ i * record_size + record_size
-    next_row = omega (arith, at_row)
+    row_is : take (end - from) (drop from t) ≡ take (end - from) (drop from s)
+    row_is = ap (take (end - from)) unread
 
     decoded : decode (take (end - from) (drop from t)) ≡ r
-    decoded = ap decode row_is ∙ (place-row s i within end next_row).1
+    decoded = ap decode row_is ∙ (place-row s i within end refl).1
 
     encoded : take (end - from) (drop from t) ≡ encode r
-    encoded = row_is ∙ place-bytes s i within end next_row o
+    encoded = row_is ∙ place-bytes s i within end refl o
 
-    after : end / record_size ≡ suc i
-    after = omega (arith, g.whole)
-
-    one_more : take (end / record_size) (records s) ≡ take i (records s) ++ (r ∷ [])
-    one_more = ap (λ (k : ℕ). take k (records s)) after ∙ take-suc (records s) i empty within.1
+    one_more : take (i + 1) (records s) ≡ take i (records s) ++ (r ∷ [])
+    one_more = let next : i + 1 ≡ suc i = omega arith in ap (λ (k : ℕ). take k (records s)) next ∙ take-suc (records s) i empty within.1
 
     module _ (b : Bool) (e : b ≡ of_epoch E bits (decode (take (end - from) (drop from t)))) where
       test-is : of_epoch E bits r ≡ b
       test-is = ap (of_epoch E bits) (sym decoded) ∙ sym e
 
       -- a record that goes is passed over
-      passed : not b ≡ false → staying E bits (end / record_size) s ≡ staying E bits i s
+      passed : not b ≡ false → staying E bits (i + 1) s ≡ staying E bits i s
       unfolding staying others
       passed n =
           ap (λ (l : List KeyRecord). encode_all (others E bits l)) one_more
           ∙ ap encode_all (others-append E bits (take i (records s)) (r ∷ []) ∙ ap (λ (l : List KeyRecord). others E bits (take i (records s)) ++ l) (others-gone E bits r [] (test-is ∙ not-false b n)) ∙ append-nil (others E bits (take i (records s))))
 
-      pub gathered-past : not b ≡ false → Gathered E bits s t to end
-      gathered-past n = record {
+      pub gathered-past : (u : List ℕ) (to' : ℕ) → not b ≡ false → u ≡ t → to' ≡ to → Gathered E bits s u to' (i + 1)
+      gathered-past u to' n q k = record {
         inside = omega (arith, room, same_length);
-        whole = omega (arith, g.whole);
         below = omega (arith, g.below);
-        written = g.written ∙ ap length (sym (passed n));
-        bytes-are = g.bytes-are ∙ ap (λ (l : List ℕ). l ++ drop to s) (sym (passed n));
+        written = k ∙ g.written ∙ ap length (sym (passed n));
+        bytes-are = q ∙ g.bytes-are ∙ ap₂ (λ (l : List ℕ) (j : ℕ). l ++ drop j s) (sym (passed n)) (sym k);
       }
 
       -- a record that stays is copied down
-      longer : not b ≡ true → staying E bits (end / record_size) s ≡ staying E bits i s ++ take (end - from) (drop from t)
+      longer : not b ≡ true → staying E bits (i + 1) s ≡ staying E bits i s ++ take (end - from) (drop from t)
       unfolding staying others encode_all
       longer n =
           ap (λ (l : List KeyRecord). encode_all (others E bits l)) one_more
@@ -163,7 +155,7 @@ module _ (E bits : ℕ) (s : List ℕ) (o : Octets s) (is-sound : sound s ≡ tr
           ∙ encode-append (others E bits (take i (records s))) (r ∷ [])
           ∙ ap (λ (l : List ℕ). encode_all (others E bits (take i (records s))) ++ l) (append-nil (encode r) ∙ sym encoded)
 
-      pub gathered-on : (u : List ℕ) (to' : ℕ) → not b ≡ true → u ≡ pasted t to (take record_size (drop from t)) → to' ≡ to + record_size → Gathered E bits s u to' end
+      pub gathered-on : (u : List ℕ) (to' : ℕ) → not b ≡ true → u ≡ pasted t to (take record_size (drop from t)) → to' ≡ to + record_size → Gathered E bits s u to' (i + 1)
       unfolding pasted
       gathered-on u to' n q k =
           let w : end - from ≡ record_size = omega arith in
@@ -172,7 +164,6 @@ module _ (E bits : ℕ) (s : List ℕ) (o : Octets s) (is-sound : sound s ≡ tr
           let up : to + length (take (end - from) (drop from t)) ≡ to + record_size = ap (λ (j : ℕ). to + j) len in
           record {
             inside = omega (arith, room, same_length);
-            whole = omega (arith, g.whole);
             below = omega (arith, g.below);
             written = k ∙ sym (ap length (longer n) ∙ simp length-append (omega (arith, len, g.written)));
             bytes-are =
@@ -190,11 +181,11 @@ module _ (E bits : ℕ) (s : List ℕ) (o : Octets s) (is-sound : sound s ≡ tr
           }
 
   -- where all were read
-  pub gathered-all : length t ≤ from → (to ≡ length (encode_all (others E bits (records s)))) × (t ≡ encode_all (others E bits (records s)) ++ drop to s)
+  pub gathered-all : length s / record_size ≤ i → (to ≡ length (encode_all (others E bits (records s)))) × (t ≡ encode_all (others E bits (records s)) ++ drop to s)
   unfolding staying
   gathered-all past =
       let all : staying E bits i s ≡ encode_all (others E bits (records s)) =
-      ap (λ (l : List KeyRecord). encode_all (others E bits l)) (take_all i (records s) (omega (arith, past, same_length, count)))
+      ap (λ (l : List KeyRecord). encode_all (others E bits l)) (take_all i (records s) (omega (arith, past, count)))
       in
       (g.written ∙ ap length all, g.bytes-are ∙ ap (λ (l : List ℕ). l ++ drop to s) all)
 

@@ -41,14 +41,13 @@ fn gather(store: &mut [u8], e: u64, bits: u64) -> usize
     ensures store_after { store.new ≡ encode_all (others e bits (records store.old)) ++ drop result store.old }
 {
     let mut to = 0;
-    let mut from = 0;
-    while from < store.len() {
+    for i in 0..store.len() / RECORD_SIZE {
+        let from = i * RECORD_SIZE;
         let end = from + RECORD_SIZE;
         if !of_epoch(&store[from..end], e, bits) {
             copy_down(store, to, from);
             to += RECORD_SIZE;
         }
-        from = end;
     }
     to
 }
