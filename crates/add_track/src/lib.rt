@@ -8,7 +8,7 @@ ghost use Rattle.track_record.specs.Record.{track_id};
 ghost use Rattle.add_track.specs.Add.{barred, add};
 
 use answers::{MAX_BASE_KEY, MIN_BASE_KEY, Refusal};
-use secure_objects::{KeyId, MAX_NAME};
+use secure_objects::{MAX_NAME, TrackId};
 use suites::sizes::Aes128CtrHmacSha256Tag32;
 use track_record::Role;
 
@@ -27,13 +27,12 @@ fn is_barred(role: Role, suite: u64) -> bool
 pub fn add(
     store: &mut [u8],
     role: Role,
-    name: &[u8],
-    id: KeyId,
+    track: TrackId,
     suite: u64,
     base: &[u8],
 ) -> Result<(), Refusal>
-    ensures value { number_of result ≡ (add store.old role (track_id name.now id.0) suite base.now).number }
-    ensures store_after { store.new ≡ (add store.old role (track_id name.now id.0) suite base.now).store }
+    ensures value { number_of result ≡ (add store.old role (track_id track.entry.name.now track.entry.id.0) suite base.now).number }
+    ensures store_after { store.new ≡ (add store.old role (track_id track.entry.name.now track.entry.id.0) suite base.now).store }
 {
     if !tracks::is_sound(store) {
         return Err(Refusal::StoreInvalid);
@@ -48,13 +47,13 @@ pub fn add(
     if MAX_BASE_KEY < base.len() {
         return Err(Refusal::BaseKeySize);
     }
-    if MAX_NAME < name.len() {
+    if MAX_NAME < track.name.len() {
         return Err(Refusal::InputTooLong);
     }
-    let None = tracks::find(store, name, id) else {
+    let None = tracks::find(store, track) else {
         return Err(Refusal::KidHeld);
     };
     let i = tracks::find_free(store).ok_or(Refusal::StoreFull)?;
-    tracks::fill_at(store, i, role, known, name, id, base);
+    tracks::fill_at(store, i, role, known, track, base);
     Ok(())
 }

@@ -14,8 +14,18 @@ ghost use Rattle.seal_object.specs.Seal.{seal};
 ghost use Rattle.open_object.specs.Open.{opening};
 
 use answers::Refusal;
-use secure_objects::{GroupId, KeyId, ObjectId, Pair};
+use secure_objects::{GroupId, KeyId, ObjectId, Pair, TrackId};
 use track_record::Role;
+
+// The track of a name and a Key ID.
+fn track_of<'a>(name: &'a [u8], id: u64) -> TrackId<'a>
+    ensures { (result.name.now ≡ name.now) × (result.id.0 ≡ id) }
+{
+    TrackId {
+        name,
+        id: KeyId(id),
+    }
+}
 
 // The number of what a call answers: 0 where it is done.
 fn number(answer: Result<(), Refusal>) -> u32
@@ -64,7 +74,7 @@ pub extern "C" fn moq_add_sending(
     ensures value { result ≡ (add store.old Sending (track_id name.now id) suite base.now).number }
     ensures store_after { store.new ≡ (add store.old Sending (track_id name.now id) suite base.now).store }
 {
-    number(add_track::add(store, Role::Sending, name, KeyId(id), suite, base))
+    number(add_track::add(store, Role::Sending, track_of(name, id), suite, base))
 }
 
 #[unsafe(no_mangle)]
@@ -78,7 +88,7 @@ pub extern "C" fn moq_add_receiving(
     ensures value { result ≡ (add store.old Receiving (track_id name.now id) suite base.now).number }
     ensures store_after { store.new ≡ (add store.old Receiving (track_id name.now id) suite base.now).store }
 {
-    number(add_track::add(store, Role::Receiving, name, KeyId(id), suite, base))
+    number(add_track::add(store, Role::Receiving, track_of(name, id), suite, base))
 }
 
 #[unsafe(no_mangle)]
@@ -86,7 +96,7 @@ pub extern "C" fn moq_remove(store: &mut [u8], name: &[u8], id: u64) -> u32
     ensures value { result ≡ (remove store.old (track_id name.now id)).number }
     ensures store_after { store.new ≡ (remove store.old (track_id name.now id)).store }
 {
-    number(tracks::remove(store, name, KeyId(id)))
+    number(tracks::remove(store, track_of(name, id)))
 }
 
 #[unsafe(no_mangle)]
@@ -108,8 +118,10 @@ pub extern "C" fn moq_seal(
 {
     let answer = seal_object::seal(
         store,
-        name,
-        KeyId(id),
+        TrackId {
+            name,
+            id: KeyId(id),
+        },
         Pair {
             group: GroupId(group),
             object: ObjectId(object),
@@ -139,8 +151,10 @@ pub extern "C" fn moq_open(
 {
     let answer = open_object::open(
         store,
-        name,
-        KeyId(id),
+        TrackId {
+            name,
+            id: KeyId(id),
+        },
         Pair {
             group: GroupId(group),
             object: ObjectId(object),

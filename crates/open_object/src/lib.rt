@@ -12,7 +12,7 @@ ghost use Rattle.track_record.specs.Record.{track_id, is_empty, receives};
 ghost use Rattle.open_object.specs.Open.{open_causes, open_at, opening};
 
 use answers::{Refusal, too_long};
-use secure_objects::{KeyId, OBJECT_CEILING, ObjectId, Pair};
+use secure_objects::{OBJECT_CEILING, ObjectId, Pair, TrackId};
 use track_record::{Kind, row};
 
 // Whether a record of that kind opens.
@@ -57,16 +57,15 @@ fn judge(
 // Opens an object with the record that holds its track.
 fn open_with(
     row: &[u8],
-    name: &[u8],
-    id: KeyId,
+    track: TrackId,
     pair: Pair,
     properties: &[u8],
     sealed: &[u8],
     room: &mut [u8],
 ) -> Result<usize, Refusal>
-    requires { (length row.now ≡ record_size) × (is_empty (decode row.now) ≡ false) × (length name.now ≤ name_most) }
-    ensures number_value { (number_of result ≡ (open_at true (decode row.now) [] (track_id name.now id.0) pair.group.0 pair.object.0 properties.now sealed.now room.old).number) × (written_of result ≡ (open_at true (decode row.now) [] (track_id name.now id.0) pair.group.0 pair.object.0 properties.now sealed.now room.old).written) }
-    ensures room_after { room.new ≡ (open_at true (decode row.now) [] (track_id name.now id.0) pair.group.0 pair.object.0 properties.now sealed.now room.old).room }
+    requires { (length row.now ≡ record_size) × (is_empty (decode row.now) ≡ false) × (length track.name.now ≤ name_most) }
+    ensures number_value { (number_of result ≡ (open_at true (decode row.now) [] (track_id track.entry.name.now track.entry.id.0) pair.group.0 pair.object.0 properties.now sealed.now room.old).number) × (written_of result ≡ (open_at true (decode row.now) [] (track_id track.entry.name.now track.entry.id.0) pair.group.0 pair.object.0 properties.now sealed.now room.old).written) }
+    ensures room_after { room.new ≡ (open_at true (decode row.now) [] (track_id track.entry.name.now track.entry.id.0) pair.group.0 pair.object.0 properties.now sealed.now room.old).room }
 {
     judge(row, pair.object, properties.len(), sealed.len(), room.len())?;
     let (_, suite) = row::held_in(row).ok_or(Refusal::KidMissing)?;
@@ -74,8 +73,7 @@ fn open_with(
         suite,
         row::key_of(row, suite),
         row::salt_of(row),
-        name,
-        id,
+        track,
         pair,
         properties,
         sealed,
@@ -90,24 +88,22 @@ fn open_with(
 // the room. Nothing changes in the store.
 pub fn open(
     store: &[u8],
-    name: &[u8],
-    id: KeyId,
+    track: TrackId,
     pair: Pair,
     properties: &[u8],
     sealed: &[u8],
     room: &mut [u8],
 ) -> Result<usize, Refusal>
-    ensures number_value { (number_of result ≡ (opening store.now (track_id name.now id.0) pair.group.0 pair.object.0 properties.now sealed.now room.old).number) × (written_of result ≡ (opening store.now (track_id name.now id.0) pair.group.0 pair.object.0 properties.now sealed.now room.old).written) }
-    ensures room_after { room.new ≡ (opening store.now (track_id name.now id.0) pair.group.0 pair.object.0 properties.now sealed.now room.old).room }
+    ensures number_value { (number_of result ≡ (opening store.now (track_id track.entry.name.now track.entry.id.0) pair.group.0 pair.object.0 properties.now sealed.now room.old).number) × (written_of result ≡ (opening store.now (track_id track.entry.name.now track.entry.id.0) pair.group.0 pair.object.0 properties.now sealed.now room.old).written) }
+    ensures room_after { room.new ≡ (opening store.now (track_id track.entry.name.now track.entry.id.0) pair.group.0 pair.object.0 properties.now sealed.now room.old).room }
 {
     if !tracks::is_sound(store) {
         return Err(Refusal::StoreInvalid);
     }
-    let i = tracks::find(store, name, id).ok_or(Refusal::KidMissing)?;
+    let i = tracks::find(store, track).ok_or(Refusal::KidMissing)?;
     open_with(
         tracks::row_at(store, i),
-        name,
-        id,
+        track,
         pair,
         properties,
         sealed,

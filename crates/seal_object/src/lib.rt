@@ -12,7 +12,7 @@ ghost use Rattle.track_record.specs.Inner.Rows.{Row};
 ghost use Rattle.seal_object.specs.Seal.{seal_causes, object_under, seal};
 
 use answers::{Refusal, too_long};
-use secure_objects::{KeyId, OBJECT_CEILING, Pair};
+use secure_objects::{OBJECT_CEILING, Pair, TrackId};
 use suites::Suite;
 use track_record::{Kind, row};
 
@@ -56,17 +56,16 @@ fn judge(
 // Writes the object of a pair to the front of the room, where nothing is against it.
 fn write_object(
     row: &[u8],
-    name: &[u8],
-    id: KeyId,
+    track: TrackId,
     pair: Pair,
     properties: &[u8],
     plaintext: &[u8],
     room: &mut [u8],
 ) -> usize
-    requires row_len { (length row.now ≡ record_size) × (length name.now ≤ name_most) }
+    requires row_len { (length row.now ≡ record_size) × (length track.name.now ≤ name_most) }
     requires room_value { first (seal_causes true (decode row.now) pair.group.0 pair.object.0 (length properties.now) (length plaintext.now) (length room.old)) ≡ done }
-    ensures value { result ≡ length (object_under (decode row.now) (track_id name.now id.0) pair.group.0 pair.object.0 properties.now plaintext.now) }
-    ensures room_after { room.new ≡ object_under (decode row.now) (track_id name.now id.0) pair.group.0 pair.object.0 properties.now plaintext.now ++ drop result room.old }
+    ensures value { result ≡ length (object_under (decode row.now) (track_id track.entry.name.now track.entry.id.0) pair.group.0 pair.object.0 properties.now plaintext.now) }
+    ensures room_after { room.new ≡ object_under (decode row.now) (track_id track.entry.name.now track.entry.id.0) pair.group.0 pair.object.0 properties.now plaintext.now ++ drop result room.old }
 {
     let Some((_, suite)) = row::held_in(row) else {
         return 0;
@@ -76,8 +75,7 @@ fn write_object(
         suite,
         row::key_of(row, suite),
         row::salt_of(row),
-        name,
-        id,
+        track,
         pair,
         properties,
         plaintext,
@@ -90,21 +88,20 @@ fn write_object(
 // once everything has been checked.
 pub fn seal(
     store: &mut [u8],
-    name: &[u8],
-    id: KeyId,
+    track: TrackId,
     pair: Pair,
     properties: &[u8],
     plaintext: &[u8],
     room: &mut [u8],
 ) -> Result<usize, Refusal>
-    ensures number_value { (number_of result ≡ (seal store.old (track_id name.now id.0) pair.group.0 pair.object.0 properties.now plaintext.now room.old).number) × (written_of result ≡ (seal store.old (track_id name.now id.0) pair.group.0 pair.object.0 properties.now plaintext.now room.old).written) }
-    ensures store_after { store.new ≡ (seal store.old (track_id name.now id.0) pair.group.0 pair.object.0 properties.now plaintext.now room.old).store }
-    ensures room_after { room.new ≡ (seal store.old (track_id name.now id.0) pair.group.0 pair.object.0 properties.now plaintext.now room.old).room }
+    ensures number_value { (number_of result ≡ (seal store.old (track_id track.entry.name.now track.entry.id.0) pair.group.0 pair.object.0 properties.now plaintext.now room.old).number) × (written_of result ≡ (seal store.old (track_id track.entry.name.now track.entry.id.0) pair.group.0 pair.object.0 properties.now plaintext.now room.old).written) }
+    ensures store_after { store.new ≡ (seal store.old (track_id track.entry.name.now track.entry.id.0) pair.group.0 pair.object.0 properties.now plaintext.now room.old).store }
+    ensures room_after { room.new ≡ (seal store.old (track_id track.entry.name.now track.entry.id.0) pair.group.0 pair.object.0 properties.now plaintext.now room.old).room }
 {
     if !tracks::is_sound(store) {
         return Err(Refusal::StoreInvalid);
     }
-    let i = tracks::find(store, name, id).ok_or(Refusal::KidMissing)?;
+    let i = tracks::find(store, track).ok_or(Refusal::KidMissing)?;
     judge(
         tracks::row_at(store, i),
         pair,
@@ -114,8 +111,7 @@ pub fn seal(
     )?;
     let length = write_object(
         tracks::row_at(store, i),
-        name,
-        id,
+        track,
         pair,
         properties,
         plaintext,

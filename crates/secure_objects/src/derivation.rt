@@ -10,7 +10,7 @@ ghost use Rattle.secure_objects.specs.Derivation.{label, derived, moq_key, moq_s
 ghost use Rattle.secure_objects.specs.Objects.{name_most};
 ghost use Rattle.secure_objects.specs.Inner.Sizes.{label_size, text_most};
 
-use crate::{KeyId, MAX_NAME};
+use crate::{MAX_NAME, TrackId};
 use suites::Suite;
 
 // The bytes of a label behind the name: the suite's number and the Key ID.
@@ -24,50 +24,49 @@ const MAX_TEXT: usize = 34;
 const MAX_LABEL: usize = MAX_TEXT + MAX_NAME + NUMBER_SIZE + KEY_ID_SIZE;
 
 // Writes the label of a derivation to the front of out; its length is the result.
-fn write_label(out: &mut [u8], text: &[u8], suite: Suite, name: &[u8], id: KeyId) -> usize
-    requires { (label_size text.now name.now ≤ length out.old) × (length text.now ≤ text_most) × (length name.now ≤ name_most) }
-    ensures value { result ≡ label_size text.now name.now }
-    ensures out_after { out.new ≡ pasted out.old 0 (label text.now suite name.now id.0) }
+fn write_label(out: &mut [u8], text: &[u8], suite: Suite, track: TrackId) -> usize
+    requires { (label_size text.now track.name.now ≤ length out.old) × (length text.now ≤ text_most) × (length track.name.now ≤ name_most) }
+    ensures value { result ≡ label_size text.now track.entry.name.now }
+    ensures out_after { out.new ≡ pasted out.old 0 (label text.now suite track.entry.name.now track.entry.id.0) }
 {
     let a = text.len();
-    let b = a + name.len();
+    let b = a + track.name.len();
     let c = b + NUMBER_SIZE;
     octets::copy_at(out, 0, text);
-    octets::copy_at(out, a, name);
+    octets::copy_at(out, a, track.name);
     octets::write_be_at(out, b, NUMBER_SIZE, suite.number());
-    octets::write_be_at(out, c, KEY_ID_SIZE, id.0);
+    octets::write_be_at(out, c, KEY_ID_SIZE, track.id.0);
     c + KEY_ID_SIZE
 }
 
 // Fills out with what the suite derives from the base key for a track, under the label of a text.
-fn derive(suite: Suite, base: &[u8], text: &[u8], name: &[u8], id: KeyId, out: &mut [u8])
-    requires { (length base.now ≤ largest) × (length text.now ≤ text_most) × (length name.now ≤ name_most) × (length out.old ≤ limit sha256) }
-    ensures { out.new ≡ derived text.now suite base.now name.now id.0 (length out.old) }
+fn derive(suite: Suite, base: &[u8], text: &[u8], track: TrackId, out: &mut [u8])
+    requires { (length base.now ≤ largest) × (length text.now ≤ text_most) × (length track.name.now ≤ name_most) × (length out.old ≤ limit sha256) }
+    ensures { out.new ≡ derived text.now suite base.now track.entry.name.now track.entry.id.0 (length out.old) }
 {
     let mut info = [0u8; MAX_LABEL];
-    let n = write_label(&mut info, text, suite, name, id);
+    let n = write_label(&mut info, text, suite, track);
     suites::derivation::expand_label(suite, base, &info[0..n], out);
 }
 
 // Fills key with what the suite derives from the base key for a track.
-pub fn derive_key(suite: Suite, base: &[u8], name: &[u8], id: KeyId, key: &mut [u8])
-    requires { (length base.now ≤ largest) × (length name.now ≤ name_most) × (length key.old ≡ Nk suite) }
-    ensures { key.new ≡ moq_key suite base.now name.now id.0 }
+pub fn derive_key(suite: Suite, base: &[u8], track: TrackId, key: &mut [u8])
+    requires { (length base.now ≤ largest) × (length track.name.now ≤ name_most) × (length key.old ≡ Nk suite) }
+    ensures { key.new ≡ moq_key suite base.now track.entry.name.now track.entry.id.0 }
 {
     derive(
         suite,
         base,
         b"MOQ 1.0 Secure Objects Secret key ",
-        name,
-        id,
+        track,
         key,
     );
 }
 
 // Fills salt likewise.
-pub fn derive_salt(suite: Suite, base: &[u8], name: &[u8], id: KeyId, salt: &mut [u8])
-    requires { (length base.now ≤ largest) × (length name.now ≤ name_most) × (length salt.old ≡ Nn) }
-    ensures { salt.new ≡ moq_salt suite base.now name.now id.0 }
+pub fn derive_salt(suite: Suite, base: &[u8], track: TrackId, salt: &mut [u8])
+    requires { (length base.now ≤ largest) × (length track.name.now ≤ name_most) × (length salt.old ≡ Nn) }
+    ensures { salt.new ≡ moq_salt suite base.now track.entry.name.now track.entry.id.0 }
 {
-    derive(suite, base, b"MOQ 1.0 Secret salt ", name, id, salt);
+    derive(suite, base, b"MOQ 1.0 Secret salt ", track, salt);
 }

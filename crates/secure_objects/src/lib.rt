@@ -24,6 +24,13 @@ pub struct Pair {
     pub object: ObjectId,
 }
 
+// A track: its full name, and its Key ID.
+#[derive(Clone, Copy)]
+pub struct TrackId<'a> {
+    pub name: &'a [u8],
+    pub id: KeyId,
+}
+
 // The longest full track name.
 pub const MAX_NAME: usize = 256;
 

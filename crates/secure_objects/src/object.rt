@@ -9,7 +9,7 @@ ghost use Rattle.secure_objects.specs.Objects.{name_most, object_ceiling, counte
 ghost use Rattle.secure_objects.specs.Inner.Sizes.{numbers_most, head_most};
 
 use crate::varint::{MAX_VARINT, write_varint};
-use crate::{KeyId, MAX_NAME, Pair};
+use crate::{MAX_NAME, Pair, TrackId};
 use suites::Suite;
 use suites::sizes::Aes128GcmSha256;
 
@@ -34,15 +34,15 @@ fn nonce_of(salt: &[u8], pair: Pair) -> [u8; NN]
 }
 
 // Writes the head of the associated data to the front of out, all of it but the properties; its length is the result.
-fn write_head(out: &mut [u8], id: KeyId, pair: Pair, name: &[u8]) -> usize
-    requires { (numbers_most + length name.now ≤ length out.old) × (length name.now ≤ name_most) }
-    ensures { (take result out.new ≡ aad id.0 pair.group.0 pair.object.0 name.now []) × (result ≤ head_most) }
+fn write_head(out: &mut [u8], track: TrackId, pair: Pair) -> usize
+    requires { (numbers_most + length track.name.now ≤ length out.old) × (length track.name.now ≤ name_most) }
+    ensures { (take result out.new ≡ aad track.entry.id.0 pair.group.0 pair.object.0 track.entry.name.now []) × (result ≤ head_most) }
 {
-    let a = write_varint(out, 0, id.0);
+    let a = write_varint(out, 0, track.id.0);
     let b = write_varint(out, a, pair.group.0);
     let c = write_varint(out, b, pair.object.0);
-    octets::copy_at(out, c, name);
-    c + name.len()
+    octets::copy_at(out, c, track.name);
+    c + track.name.len()
 }
 
 // Fills out with the object of a plaintext, under a track's key and salt.
@@ -50,20 +50,19 @@ pub fn secure(
     suite: Suite,
     key: &[u8],
     salt: &[u8],
-    name: &[u8],
-    id: KeyId,
+    track: TrackId,
     pair: Pair,
     properties: &[u8],
     plaintext: &[u8],
     out: &mut [u8],
 )
-    requires key_len { (length key.now ≡ Nk suite) × (length salt.now ≡ Nn) × (length name.now ≤ name_most) × (pair.object.0 < object_ceiling) }
+    requires key_len { (length key.now ≡ Nk suite) × (length salt.now ≡ Nn) × (length track.name.now ≤ name_most) × (pair.object.0 < object_ceiling) }
     requires properties_len_bound { (length properties.now ≤ max_metadata) × (length plaintext.now ≤ max_plaintext) × (length out.old ≡ length plaintext.now + Nt suite) }
-    ensures { out.new ≡ secured suite key.now salt.now name.now id.0 pair.group.0 pair.object.0 properties.now plaintext.now }
+    ensures { out.new ≡ secured suite key.now salt.now track.entry.name.now track.entry.id.0 pair.group.0 pair.object.0 properties.now plaintext.now }
 {
     let nonce = nonce_of(salt, pair);
     let mut head = [0u8; MAX_HEAD];
-    let n = write_head(&mut head, id, pair, name);
+    let n = write_head(&mut head, track, pair);
     ciphers::encrypt(suite, key, &nonce, &head[0..n], properties, plaintext, out);
 }
 
@@ -73,20 +72,19 @@ pub fn unsecure(
     suite: Suite,
     key: &[u8],
     salt: &[u8],
-    name: &[u8],
-    id: KeyId,
+    track: TrackId,
     pair: Pair,
     properties: &[u8],
     sealed: &[u8],
     out: &mut [u8],
 ) -> bool
-    requires key_len { (length key.now ≡ Nk suite) × (length salt.now ≡ Nn) × (length name.now ≤ name_most) × (pair.object.0 < object_ceiling) }
+    requires key_len { (length key.now ≡ Nk suite) × (length salt.now ≡ Nn) × (length track.name.now ≤ name_most) × (pair.object.0 < object_ceiling) }
     requires properties_len_bound { (length properties.now ≤ max_metadata) × (Nt suite ≤ length sealed.now) × (length sealed.now - Nt suite ≤ max_plaintext) × (length sealed.now - Nt suite ≤ length out.old) }
-    ensures value { result ≡ is_plain (unsecured suite key.now salt.now name.now id.0 pair.group.0 pair.object.0 properties.now sealed.now) }
-    ensures out_after { out.new ≡ room_after (unsecured suite key.now salt.now name.now id.0 pair.group.0 pair.object.0 properties.now sealed.now) out.old }
+    ensures value { result ≡ is_plain (unsecured suite key.now salt.now track.entry.name.now track.entry.id.0 pair.group.0 pair.object.0 properties.now sealed.now) }
+    ensures out_after { out.new ≡ room_after (unsecured suite key.now salt.now track.entry.name.now track.entry.id.0 pair.group.0 pair.object.0 properties.now sealed.now) out.old }
 {
     let nonce = nonce_of(salt, pair);
     let mut head = [0u8; MAX_HEAD];
-    let n = write_head(&mut head, id, pair, name);
+    let n = write_head(&mut head, track, pair);
     ciphers::decrypt(suite, key, &nonce, &head[0..n], properties, sealed, out)
 }

@@ -8,7 +8,7 @@ ghost use Rattle.track_record.specs.Inner.Rows.{held_of, with_last};
 
 use crate::row::{held_in, key_id_of, key_of, name_of, salt_of, start, write_pair};
 use crate::{FLAG, KEY, Kind, PAIR_GROUP, PAIR_OBJECT, RECORD_SIZE, SALT};
-use secure_objects::{GroupId, ObjectId, Pair};
+use secure_objects::{GroupId, ObjectId, Pair, TrackId};
 use suites::Suite;
 
 // Whether every byte is zero.
@@ -43,7 +43,11 @@ fn write_back(out: &mut [u8], row: &[u8], kind: Kind, suite: Suite)
     requires { (out.old ≡ encode empty) × (length out.old ≡ record_size) × (length row.now ≡ record_size) × (held_of (decode row.now) ≡ Some (kind, suite)) }
     ensures { out.new ≡ encode (decode row.now) }
 {
-    start(out, kind, suite, name_of(row), key_id_of(row));
+    let track = TrackId {
+        name: name_of(row),
+        id: key_id_of(row),
+    };
+    start(out, kind, suite, track);
     write_last(out, row);
     octets::copy_at(out, SALT, salt_of(row));
     octets::copy_at(out, KEY, key_of(row, suite));

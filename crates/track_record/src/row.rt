@@ -12,7 +12,7 @@ use crate::{
     FLAG, KEY, KEY_ID, Kind, MARK, NAME, NAME_LENGTH, PAIR_GROUP, PAIR_OBJECT, RECEIVER, RETIRED,
     Role, SALT, SENDER, SUITE,
 };
-use secure_objects::{KeyId, MAX_NAME, Pair, derivation};
+use secure_objects::{KeyId, MAX_NAME, Pair, TrackId, derivation};
 use suites::Suite;
 
 // What a mark stands for.
@@ -94,17 +94,17 @@ pub fn name_of(row: &[u8]) -> &[u8]
 }
 
 // Whether a record is a non-empty one with that name and Key ID.
-pub fn holds(row: &[u8], name: &[u8], id: KeyId) -> bool
+pub fn holds(row: &[u8], track: TrackId) -> bool
     requires { length row.now ≡ record_size }
-    ensures { result ≡ holds (track_id name.now id.0) (decode row.now) }
+    ensures { result ≡ holds (track_id track.entry.name.now track.entry.id.0) (decode row.now) }
 {
     if is_empty(row) {
         return false;
     }
-    if key_id_of(row).0 != id.0 {
+    if key_id_of(row).0 != track.id.0 {
         return false;
     }
-    octets::equal(name_of(row), name)
+    octets::equal(name_of(row), track.name)
 }
 
 // Whether the counter of a pair is below the floor of a record that is not empty: a pair was sealed, and this one is not above
@@ -141,13 +141,13 @@ pub fn key_of(row: &[u8], suite: Suite) -> &[u8]
 }
 
 // Writes a record over an empty one: all but salt and key, which stay zero, and nothing is sealed.
-pub fn start(row: &mut [u8], kind: Kind, suite: Suite, name: &[u8], id: KeyId)
-    requires { (row.old ≡ encode empty) × (length row.old ≡ record_size) × (length name.now ≤ name_most) }
-    ensures { row.new ≡ start_row kind suite id.0 name.now }
+pub fn start(row: &mut [u8], kind: Kind, suite: Suite, track: TrackId)
+    requires { (row.old ≡ encode empty) × (length row.old ≡ record_size) × (length track.name.now ≤ name_most) }
+    ensures { row.new ≡ start_row kind suite track.entry.id.0 track.entry.name.now }
 {
-    octets::write_be_at(row, KEY_ID, 8, id.0);
-    octets::write_be_at(row, NAME_LENGTH, 2, name.len() as u64);
-    octets::copy_at(row, NAME, name);
+    octets::write_be_at(row, KEY_ID, 8, track.id.0);
+    octets::write_be_at(row, NAME_LENGTH, 2, track.name.len() as u64);
+    octets::copy_at(row, NAME, track.name);
     row[SUITE] = suite.number() as u8;
     row[MARK] = mark_of(kind);
 }
@@ -163,14 +163,14 @@ pub fn write_pair(row: &mut [u8], pair: Pair)
 }
 
 // Writes the record of a new track over an empty one.
-pub fn fill(row: &mut [u8], role: Role, suite: Suite, name: &[u8], id: KeyId, base: &[u8])
-    requires { (row.old ≡ encode empty) × (length row.old ≡ record_size) × (length name.now ≤ name_most) × (length base.now ≤ base_key_most) }
-    ensures { row.new ≡ encode (fresh role suite (track_id name.now id.0) base.now) }
+pub fn fill(row: &mut [u8], role: Role, suite: Suite, track: TrackId, base: &[u8])
+    requires { (row.old ≡ encode empty) × (length row.old ≡ record_size) × (length track.name.now ≤ name_most) × (length base.now ≤ base_key_most) }
+    ensures { row.new ≡ encode (fresh role suite (track_id track.entry.name.now track.entry.id.0) base.now) }
 {
-    start(row, kind_for(role), suite, name, id);
-    derivation::derive_salt(suite, base, name, id, &mut row[SALT..KEY]);
+    start(row, kind_for(role), suite, track);
+    derivation::derive_salt(suite, base, track, &mut row[SALT..KEY]);
     let end = KEY + suite.key_size();
-    derivation::derive_key(suite, base, name, id, &mut row[KEY..end]);
+    derivation::derive_key(suite, base, track, &mut row[KEY..end]);
 }
 
 // Takes a pair for sealed in a sending record.

@@ -14,7 +14,7 @@ ghost use Rattle.tracks.specs.Table.{alone, apart};
 ghost use Rattle.tracks.specs.Inner.Places.{Whole, part_at, rows_obey, Within, RowOf, FoundIn, FreeIn};
 
 use answers::Refusal;
-use secure_objects::{KeyId, Pair};
+use secure_objects::{Pair, TrackId};
 use suites::Suite;
 use track_record::{Kind, RECORD_SIZE, Role, judging, row};
 
@@ -55,12 +55,12 @@ fn rows_obey(store: &[u8]) -> bool
 }
 
 // Where the record stands that holds a track.
-pub fn find(store: &[u8], name: &[u8], id: KeyId) -> Option<usize>
+pub fn find(store: &[u8], track: TrackId) -> Option<usize>
     requires { Whole store.now }
-    ensures { FoundIn result (track_id name.now id.0) (records store.now) }
+    ensures { FoundIn result (track_id track.entry.name.now track.entry.id.0) (records store.now) }
 {
     for i in 0..store.len() / RECORD_SIZE {
-        if row::holds(part(store, i), name, id) {
+        if row::holds(part(store, i), track) {
             return Some(i);
         }
     }
@@ -88,7 +88,11 @@ fn alone_in(row: &[u8], rest: &[u8]) -> bool
     if row::is_empty(row) {
         return true;
     }
-    find(rest, row::name_of(row), row::key_id_of(row)).is_none()
+    let track = TrackId {
+        name: row::name_of(row),
+        id: row::key_id_of(row),
+    };
+    find(rest, track).is_none()
 }
 
 // Whether no two non-empty records share name and Key ID.
@@ -126,21 +130,13 @@ pub fn row_at(store: &[u8], i: usize) -> &[u8]
 }
 
 // Writes a new track to record i, which is empty.
-pub fn fill_at(
-    store: &mut [u8],
-    i: usize,
-    role: Role,
-    suite: Suite,
-    name: &[u8],
-    id: KeyId,
-    base: &[u8],
-)
-    requires { (Within store.old i) × (is_empty (get_or (records store.old) i empty) ≡ true) × (length name.now ≤ name_most) × (length base.now ≤ base_key_most) }
-    ensures { store.new ≡ encode_all (set (records store.old) i (fresh role suite (track_id name.now id.0) base.now)) }
+pub fn fill_at(store: &mut [u8], i: usize, role: Role, suite: Suite, track: TrackId, base: &[u8])
+    requires { (Within store.old i) × (is_empty (get_or (records store.old) i empty) ≡ true) × (length track.name.now ≤ name_most) × (length base.now ≤ base_key_most) }
+    ensures { store.new ≡ encode_all (set (records store.old) i (fresh role suite (track_id track.entry.name.now track.entry.id.0) base.now)) }
 {
     let at = i * RECORD_SIZE;
     let end = at + RECORD_SIZE;
-    row::fill(&mut store[at..end], role, suite, name, id, base);
+    row::fill(&mut store[at..end], role, suite, track, base);
 }
 
 // Takes a pair for sealed in record i, which is not empty.
@@ -187,14 +183,14 @@ pub fn make(store: &mut [u8]) -> Result<(), Refusal>
 }
 
 // Removes a track: its record is retired.
-pub fn remove(store: &mut [u8], name: &[u8], id: KeyId) -> Result<(), Refusal>
-    ensures value { number_of result ≡ (remove store.old (track_id name.now id.0)).number }
-    ensures store_after { store.new ≡ (remove store.old (track_id name.now id.0)).store }
+pub fn remove(store: &mut [u8], track: TrackId) -> Result<(), Refusal>
+    ensures value { number_of result ≡ (remove store.old (track_id track.entry.name.now track.entry.id.0)).number }
+    ensures store_after { store.new ≡ (remove store.old (track_id track.entry.name.now track.entry.id.0)).store }
 {
     if !is_sound(store) {
         return Err(Refusal::StoreInvalid);
     }
-    let i = find(store, name, id).ok_or(Refusal::KidMissing)?;
+    let i = find(store, track).ok_or(Refusal::KidMissing)?;
     if is_retired(row_at(store, i)) {
         return Err(Refusal::RoleRefused);
     }

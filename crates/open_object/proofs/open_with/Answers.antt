@@ -13,7 +13,7 @@ use Rattle.open_object.proofs.open_with.Goals as goal
 
 pub returns-in_err-judge : goal.returns-in_err-judge
 returns-in_err-judge c =
-    let q = open-refused (decode c.args.row.now) (track_id c.args.name.now c.args.id.0) c.args.pair.group.0 c.args.pair.object.0 c.args.properties.now c.args.sealed.now c.args.room.now _ c.judge.ensures (refused-some c.judge.result _ c.in_err-judge.was) in
+    let q = open-refused (decode c.args.row.now) (track_id c.args.track.name.now c.args.track.id.0) c.args.pair.group.0 c.args.pair.object.0 c.args.properties.now c.args.sealed.now c.args.room.now _ c.judge.ensures (refused-some c.judge.result _ c.in_err-judge.was) in
     record { number_value = (handed-on c.judge.result _ _ c.in_err-judge.was c.from_residual.ensures.1 ∙ q.0.0, nothing-written _ _ c.from_residual.ensures.1 ∙ q.0.1); room_after = q.1 }
 
 pub returns-in_err-suite : goal.returns-in_err-suite
@@ -32,7 +32,7 @@ unsecure-requires c =
 
 pub returns-then-not-unsecure : goal.returns-then-not-unsecure
 returns-then-not-unsecure c =
-    let q = tag-refused (decode c.args.row.now) (track_id c.args.name.now c.args.id.0) c.args.pair.group.0 c.args.pair.object.0 c.args.properties.now c.args.sealed.now c.args.room.now _ c.judge.ensures (done-number c.judge.result _ c.in_ok-judge.was) _ _ (told (decode c.args.row.now) _ _ _ c.held_in.ensures c.in_ok-suite.ensures.ok_part) _ refl _ _ c.key_of.ensures.0 c.salt_of.ensures.0 _ _ c.unsecure.ensures.value (ap not c.if-not-unsecure.true) c.unsecure.ensures.out_after in
+    let q = tag-refused (decode c.args.row.now) (track_id c.args.track.name.now c.args.track.id.0) c.args.pair.group.0 c.args.pair.object.0 c.args.properties.now c.args.sealed.now c.args.room.now _ c.judge.ensures (done-number c.judge.result _ c.in_ok-judge.was) _ _ (told (decode c.args.row.now) _ _ _ c.held_in.ensures c.in_ok-suite.ensures.ok_part) _ refl _ _ c.key_of.ensures.0 c.salt_of.ensures.0 _ _ c.unsecure.ensures.value (ap not c.if-not-unsecure.true) c.unsecure.ensures.out_after in
     record { number_value = q.0; room_after = q.1 }
 
 pub overflow_sub-result : goal.overflow_sub-result
@@ -41,4 +41,4 @@ overflow_sub-result c =
 
 pub returns : goal.returns
 returns c =
-    let answered = object-opened (decode c.args.row.now) (track_id c.args.name.now c.args.id.0) c.args.pair.group.0 c.args.pair.object.0 c.args.properties.now c.args.sealed.now c.args.room.now _ c.judge.ensures (done-number c.judge.result _ c.in_ok-judge.was) _ _ (told (decode c.args.row.now) _ _ _ c.held_in.ensures c.in_ok-suite.ensures.ok_part) _ c.tag_size.ensures _ _ c.key_of.ensures.0 c.salt_of.ensures.0 _ _ c.unsecure.ensures.value (ap not c.if-not-unsecure.false) c.unsecure.ensures.out_after in record { number_value = answered.0; room_after = answered.1 }
+    let answered = object-opened (decode c.args.row.now) (track_id c.args.track.name.now c.args.track.id.0) c.args.pair.group.0 c.args.pair.object.0 c.args.properties.now c.args.sealed.now c.args.room.now _ c.judge.ensures (done-number c.judge.result _ c.in_ok-judge.was) _ _ (told (decode c.args.row.now) _ _ _ c.held_in.ensures c.in_ok-suite.ensures.ok_part) _ c.tag_size.ensures _ _ c.key_of.ensures.0 c.salt_of.ensures.0 _ _ c.unsecure.ensures.value (ap not c.if-not-unsecure.false) c.unsecure.ensures.out_after in record { number_value = answered.0; room_after = answered.1 }

@@ -14,7 +14,7 @@ returns-in_default c =
 
 pub overflow_add-end : goal.overflow_add-end
 overflow_add-end c =
-    omega (arith, end_fits (decode c.args.row.now) (track_id c.args.name.now c.args.id.0) c.args.pair.group.0 c.args.pair.object.0 c.args.properties.now c.args.plaintext.now c.args.room.now (clear (decode c.args.row.now) c.args.pair.group.0 c.args.pair.object.0 _ _ _ c.requires.room_value) _ _ (told (decode c.args.row.now) _ _ _ c.held_in.ensures c.in-Some.is) _ c.tag_size.ensures)
+    omega (arith, end_fits (decode c.args.row.now) (track_id c.args.track.name.now c.args.track.id.0) c.args.pair.group.0 c.args.pair.object.0 c.args.properties.now c.args.plaintext.now c.args.room.now (clear (decode c.args.row.now) c.args.pair.group.0 c.args.pair.object.0 _ _ _ c.requires.room_value) _ _ (told (decode c.args.row.now) _ _ _ c.held_in.ensures c.in-Some.is) _ c.tag_size.ensures)
 
 pub key_of-requires : goal.key_of-requires
 key_of-requires c =
@@ -26,13 +26,13 @@ salt_of-requires c =
 
 pub slice_bounds-secure-end : goal.slice_bounds-secure-end
 slice_bounds-secure-end c =
-    omega (arith, end-inside (decode c.args.row.now) (track_id c.args.name.now c.args.id.0) c.args.pair.group.0 c.args.pair.object.0 c.args.properties.now c.args.plaintext.now c.args.room.now (clear (decode c.args.row.now) c.args.pair.group.0 c.args.pair.object.0 _ _ _ c.requires.room_value) _ _ (told (decode c.args.row.now) _ _ _ c.held_in.ensures c.in-Some.is) _ c.tag_size.ensures)
+    omega (arith, end-inside (decode c.args.row.now) (track_id c.args.track.name.now c.args.track.id.0) c.args.pair.group.0 c.args.pair.object.0 c.args.properties.now c.args.plaintext.now c.args.room.now (clear (decode c.args.row.now) c.args.pair.group.0 c.args.pair.object.0 _ _ _ c.requires.room_value) _ _ (told (decode c.args.row.now) _ _ _ c.held_in.ensures c.in-Some.is) _ c.tag_size.ensures)
 
 pub secure-requires : goal.secure-requires
 secure-requires c =
     let k = (clear (decode c.args.row.now) c.args.pair.group.0 c.args.pair.object.0 _ _ _ c.requires.room_value) in
-    record { key_len = (c.key_of.ensures.1, c.salt_of.ensures.1, c.requires.row_len.1, k.object-below); properties_len_bound = (k.properties-most, k.plaintext-most, body-room (decode c.args.row.now) (track_id c.args.name.now c.args.id.0) c.args.pair.group.0 c.args.pair.object.0 c.args.properties.now c.args.plaintext.now c.args.room.now (clear (decode c.args.row.now) c.args.pair.group.0 c.args.pair.object.0 _ _ _ c.requires.room_value) _ _ (told (decode c.args.row.now) _ _ _ c.held_in.ensures c.in-Some.is) _ c.tag_size.ensures) }
+    record { key_len = (c.key_of.ensures.1, c.salt_of.ensures.1, c.requires.row_len.1, k.object-below); properties_len_bound = (k.properties-most, k.plaintext-most, body-room (decode c.args.row.now) (track_id c.args.track.name.now c.args.track.id.0) c.args.pair.group.0 c.args.pair.object.0 c.args.properties.now c.args.plaintext.now c.args.room.now (clear (decode c.args.row.now) c.args.pair.group.0 c.args.pair.object.0 _ _ _ c.requires.room_value) _ _ (told (decode c.args.row.now) _ _ _ c.held_in.ensures c.in-Some.is) _ c.tag_size.ensures) }
 
 pub returns : goal.returns
 returns c =
-    let answered = object-written (decode c.args.row.now) (track_id c.args.name.now c.args.id.0) c.args.pair.group.0 c.args.pair.object.0 c.args.properties.now c.args.plaintext.now c.args.room.now (clear (decode c.args.row.now) c.args.pair.group.0 c.args.pair.object.0 _ _ _ c.requires.room_value) _ _ (told (decode c.args.row.now) _ _ _ c.held_in.ensures c.in-Some.is) _ c.tag_size.ensures _ _ _ _ c.key_of.ensures.0 c.salt_of.ensures.0 c.secure.ensures refl in record { value = answered.0; room_after = answered.1 }
+    let answered = object-written (decode c.args.row.now) (track_id c.args.track.name.now c.args.track.id.0) c.args.pair.group.0 c.args.pair.object.0 c.args.properties.now c.args.plaintext.now c.args.room.now (clear (decode c.args.row.now) c.args.pair.group.0 c.args.pair.object.0 _ _ _ c.requires.room_value) _ _ (told (decode c.args.row.now) _ _ _ c.held_in.ensures c.in-Some.is) _ c.tag_size.ensures _ _ _ _ c.key_of.ensures.0 c.salt_of.ensures.0 c.secure.ensures refl in record { value = answered.0; room_after = answered.1 }

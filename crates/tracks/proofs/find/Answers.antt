@@ -11,11 +11,11 @@ loop-i-init c = ap (get _) (records-start c.args.store.now)
 
 pub returns-then-holds : goal.returns-then-holds
 returns-then-holds c =
-    find-here c.args.store.now c.loop-i.i c.loop-i-test.true _ _ (c.holds.ensures ∙ ap (λ (x : List ℕ). holds (track_id c.args.name.now c.args.id.0) (decode x)) c.part.ensures.0) c.loop-i.invariant c.if-holds.true
+    find-here c.args.store.now c.loop-i.i c.loop-i-test.true _ _ (c.holds.ensures ∙ ap (λ (x : List ℕ). holds (track_id c.args.track.name.now c.args.track.id.0) (decode x)) c.part.ensures.0) c.loop-i.invariant c.if-holds.true
 
 pub loop-i-preserved : goal.loop-i-preserved
 loop-i-preserved c =
-    find-go c.args.store.now c.loop-i.i c.loop-i-test.true _ _ (c.holds.ensures ∙ ap (λ (x : List ℕ). holds (track_id c.args.name.now c.args.id.0) (decode x)) c.part.ensures.0) c.loop-i.invariant c.if-holds.false
+    find-go c.args.store.now c.loop-i.i c.loop-i-test.true _ _ (c.holds.ensures ∙ ap (λ (x : List ℕ). holds (track_id c.args.track.name.now c.args.track.id.0) (decode x)) c.part.ensures.0) c.loop-i.invariant c.if-holds.false
 
 pub returns : goal.returns
 returns c = find-end c.args.store.now c.loop-i.i c.loop-i-test.false _ c.loop-i.invariant

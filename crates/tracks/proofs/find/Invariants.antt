@@ -4,4 +4,4 @@ use Rattle.tracks.proofs.Walk.{Finding}
 use Rattle.tracks.proofs.find.Given as goal
 
 abbrev pub invariant-loop-i : goal.invariant-loop-i
-invariant-loop-i l = Finding (track_id l.name l.id.0) l.store l.i
+invariant-loop-i l = Finding (track_id l.track.name.now l.track.id.0) l.store l.i

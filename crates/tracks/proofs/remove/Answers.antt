@@ -34,17 +34,17 @@ is_retired-requires c = c.row_at.ensures.0.0
 pub returns-then-is_retired : goal.returns-then-is_retired
 returns-then-is_retired c =
     let octets : Octets c.args.store.now = λ j. omega (arith, c.slice_known-1.given j) in
-    let answered = remove-retired c.args.store.now (track_id c.args.name.now c.args.id.0) (tested-sound c.args.store.now (octets) _ c.is_sound.ensures (ap not c.if-not-is_sound.false)) (octets) _ c.find.ensures _ c.in_ok-i.ensures.ok_part _ c.row_at.ensures.1 _ c.is_retired.ensures c.if-is_retired.true in record { value = answered.0; store_after = answered.1 }
+    let answered = remove-retired c.args.store.now (track_id c.args.track.name.now c.args.track.id.0) (tested-sound c.args.store.now (octets) _ c.is_sound.ensures (ap not c.if-not-is_sound.false)) (octets) _ c.find.ensures _ c.in_ok-i.ensures.ok_part _ c.row_at.ensures.1 _ c.is_retired.ensures c.if-is_retired.true in record { value = answered.0; store_after = answered.1 }
 
 pub retire_at-requires : goal.retire_at-requires
 retire_at-requires c =
     let octets : Octets c.args.store.now = λ j. omega (arith, c.slice_known-1.given j) in
     let s = tested-sound c.args.store.now (octets) _ c.is_sound.ensures (ap not c.if-not-is_sound.false) in (
       found_within c.args.store.now _ _ _ s c.find.ensures c.in_ok-i.ensures.ok_part,
-      held-there c.args.store.now (track_id c.args.name.now c.args.id.0) s (octets) _ c.find.ensures _ c.in_ok-i.ensures.ok_part,
+      held-there c.args.store.now (track_id c.args.track.name.now c.args.track.id.0) s (octets) _ c.find.ensures _ c.in_ok-i.ensures.ok_part,
     )
 
 pub returns : goal.returns
 returns c =
     let octets : Octets c.args.store.now = λ j. omega (arith, c.slice_known-1.given j) in
-    let answered = remove-done c.args.store.now (track_id c.args.name.now c.args.id.0) (tested-sound c.args.store.now (octets) _ c.is_sound.ensures (ap not c.if-not-is_sound.false)) (octets) _ c.find.ensures _ c.in_ok-i.ensures.ok_part _ c.row_at.ensures.1 _ c.is_retired.ensures _ c.if-is_retired.false c.retire_at.ensures in record { value = answered.0; store_after = answered.1 }
+    let answered = remove-done c.args.store.now (track_id c.args.track.name.now c.args.track.id.0) (tested-sound c.args.store.now (octets) _ c.is_sound.ensures (ap not c.if-not-is_sound.false)) (octets) _ c.find.ensures _ c.in_ok-i.ensures.ok_part _ c.row_at.ensures.1 _ c.is_retired.ensures _ c.if-is_retired.false c.retire_at.ensures in record { value = answered.0; store_after = answered.1 }

@@ -19,4 +19,4 @@ slice_bounds-derive_key-end c =
 pub returns : goal.returns
 returns c =
     let a = c.args in
-    filled a.role a.suite a.id.0 a.name.now a.base.now _ _ _ _ _ _ _ c.kind_for.ensures (c.start.auto.row ∙ c.requires.1) c.start.ensures c.derive_salt.ensures refl (ap (λ n. 40 + n) c.key_size-end.ensures) c.derive_key.ensures refl
+    filled a.role a.suite a.track.id.0 a.track.name.now a.base.now _ _ _ _ _ _ _ c.kind_for.ensures (c.start.auto.row ∙ c.requires.1) c.start.ensures c.derive_salt.ensures refl (ap (λ n. 40 + n) c.key_size-end.ensures) c.derive_key.ensures refl

@@ -11,9 +11,9 @@ pub key_id_of-requires : goal.key_id_of-requires
 key_id_of-requires c =
     (c.requires, sym c.is_empty.ensures ∙ c.if-is_empty.false)
 
-pub returns-then-key_id_of-id : goal.returns-then-key_id_of-id
-returns-then-key_id_of-id c =
-    holds-other _ _ (decode c.args.row.now) _ c.is_empty.ensures c.if-is_empty.false _ c.key_id_of.ensures c.if-key_id_of-id.true
+pub returns-then-key_id_of-track : goal.returns-then-key_id_of-track
+returns-then-key_id_of-track c =
+    holds-other _ _ (decode c.args.row.now) _ c.is_empty.ensures c.if-is_empty.false _ c.key_id_of.ensures c.if-key_id_of-track.true
 
 pub name_of-requires : goal.name_of-requires
 name_of-requires c =
@@ -21,4 +21,4 @@ name_of-requires c =
 
 pub returns : goal.returns
 returns c =
-    holds_named _ _ (decode c.args.row.now) _ c.is_empty.ensures c.if-is_empty.false _ c.key_id_of.ensures _ _ c.if-key_id_of-id.false c.name_of.ensures.0 c.equal.ensures
+    holds_named _ _ (decode c.args.row.now) _ c.is_empty.ensures c.if-is_empty.false _ c.key_id_of.ensures _ _ c.if-key_id_of-track.false c.name_of.ensures.0 c.equal.ensures

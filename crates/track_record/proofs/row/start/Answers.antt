@@ -21,4 +21,4 @@ shape_of-row c =
 pub returns : goal.returns
 returns c =
     let a = c.args in
-    started a.row.now _ _ _ _ a.kind a.suite _ _ a.id.0 a.name.now c.requires.0 c.requires.2 c.mark_of.ensures c.number.ensures c.write_be_at.ensures c.write_be_at-2.ensures c.copy_at.ensures refl
+    started a.row.now _ _ _ _ a.kind a.suite _ _ a.track.id.0 a.track.name.now c.requires.0 c.requires.2 c.mark_of.ensures c.number.ensures c.write_be_at.ensures c.write_be_at-2.ensures c.copy_at.ensures refl
