@@ -246,7 +246,7 @@ def _closing(text, at):
     return len(text)
 
 
-FN = re.compile(r'((?:pub )?)((?:extern "C" )?)fn (\w+)\s*(?:<[^>(]*>)?\(')
+FN = re.compile(r'((?:pub )?)((?:extern "C" )?)fn (\w+)\s*(?:<(?:->|[^<>]|<[^<>]*>)*>)?\(')
 
 
 @functools.cache
