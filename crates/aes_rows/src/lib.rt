@@ -18,8 +18,8 @@ pub const PLANES: usize = 32;
 // A state, or a round key.
 pub type Rows = [u64; PLANES];
 
-// Row r. This and the next two take a slice, since the round keys that `aes_keys` writes are parts of a context: a part that
-// is lent as an array has no plain proof of what the context then holds.
+// Row r. The functions here take slices, so that a state or a round key may be part of a longer array: the round keys that
+// `aes_keys` writes are parts of a context, and a part that is lent as an array has no plain proof of what the context then holds.
 pub fn load_row(q: &[u64], r: usize) -> Planes
     requires { (length q.now ≡ 32) × (r < 4) }
     ensures { result ≡ row_at q.now r }
@@ -75,7 +75,8 @@ fn substituted(a: Planes) -> Planes
 }
 
 // SubBytes.
-pub fn sub_rows(q: &mut Rows)
+pub fn sub_rows(q: &mut [u64])
+    requires { length q.old ≡ 32 }
     ensures { Each Substituting 4 q.old q.new }
 {
     each_row(q, |_r: usize, a: Planes| substituted(a));
@@ -91,7 +92,8 @@ pub struct State {
 }
 
 // ShiftRows.
-fn shifted(q: &Rows) -> State
+fn shifted(q: &[u64]) -> State
+    requires { length q.now ≡ 32 }
     ensures { Shifted q.now result }
 {
     let a = load_row(q, 0);
@@ -107,8 +109,8 @@ fn shifted(q: &Rows) -> State
 }
 
 // Row r of MixColumns and AddRoundKey: s times x, b, t and the key.
-fn mix_into(q: &mut Rows, k: &Rows, r: usize, s: Planes, b: Planes, t: Planes)
-    requires { r < 4 }
+fn mix_into(q: &mut [u64], k: &[u64], r: usize, s: Planes, b: Planes, t: Planes)
+    requires { (length q.old ≡ 32) × (length k.now ≡ 32) × (r < 4) }
     ensures { RowMixed q.old k.now r s b t q.new }
 {
     let p = bitslice::mix(s, b, t, load_row(k, r));
@@ -116,7 +118,8 @@ fn mix_into(q: &mut Rows, k: &Rows, r: usize, s: Planes, b: Planes, t: Planes)
 }
 
 // ShiftRows, MixColumns and AddRoundKey. Each sum of two rows is made once and used in two.
-pub fn mix(q: &mut Rows, k: &Rows)
+pub fn mix(q: &mut [u64], k: &[u64])
+    requires { (length q.old ≡ 32) × (length k.now ≡ 32) }
     ensures { AllMixed q.old k.now q.new }
 {
     let s = shifted(q);
@@ -131,8 +134,8 @@ pub fn mix(q: &mut Rows, k: &Rows)
 }
 
 // Row r of AddRoundKey, of the row a.
-fn add_into(q: &mut Rows, k: &Rows, r: usize, a: Planes)
-    requires { r < 4 }
+fn add_into(q: &mut [u64], k: &[u64], r: usize, a: Planes)
+    requires { (length q.old ≡ 32) × (length k.now ≡ 32) × (r < 4) }
     ensures { RowAdded q.old k.now r a q.new }
 {
     let p = bitslice::plus(a, load_row(k, r));
@@ -140,7 +143,8 @@ fn add_into(q: &mut Rows, k: &Rows, r: usize, a: Planes)
 }
 
 // ShiftRows and AddRoundKey, as in the last round.
-pub fn last(q: &mut Rows, k: &Rows)
+pub fn last(q: &mut [u64], k: &[u64])
+    requires { (length q.old ≡ 32) × (length k.now ≡ 32) }
     ensures { AllShifted q.old k.now q.new }
 {
     let s = shifted(q);
@@ -151,7 +155,8 @@ pub fn last(q: &mut Rows, k: &Rows)
 }
 
 // AddRoundKey.
-pub fn add(q: &mut Rows, k: &Rows)
+pub fn add(q: &mut [u64], k: &[u64])
+    requires { (length q.old ≡ 32) × (length k.now ≡ 32) }
     ensures { Each (Adding k.now) 4 q.old q.new }
 {
     each_row(q, |r: usize, a: Planes| bitslice::plus(a, load_row(k, r)));

@@ -1,8 +1,21 @@
 -- SPDX-License-Identifier: MIT
 -- `aes_rows::mix` meets its contract.
 -- Assumes nothing.
+use native.Mathlib.Omega.{arith}
 use Rattle.aes_rows.proofs.Mixing.{all-mixed}
 use Rattle.aes_rows.proofs.mix.Goals as goal
+
+pub mix_into-requires-2 : goal.mix_into-requires-2
+mix_into-requires-2 c =
+    (c.mix_into.ensures.sized, c.requires.1, omega arith)
+
+pub mix_into-requires-3 : goal.mix_into-requires-3
+mix_into-requires-3 c =
+    (c.mix_into-2.ensures.sized, c.requires.1, omega arith)
+
+pub mix_into-requires-4 : goal.mix_into-requires-4
+mix_into-requires-4 c =
+    (c.mix_into-3.ensures.sized, c.requires.1, omega arith)
 
 pub returns : goal.returns
 returns c =
