@@ -9,7 +9,7 @@ use native.Mathlib.Omega.{arith}
 use lib.Arith.{digits_lt}
 use lib.Bits.{bit_or, bit_xor, xor_self, or_zero_l}
 use lib.ListN.{length, get_or, take, drop, set, take-append-drop}
-use lib.Seq.{take-suc, drop-cons, set_at, get_or_at, take_all, get_or-drop, drop-length, get_or-take, take-take, length-take-le}
+use lib.Seq.{take-suc, drop-cons, set_at, get_or_at, take_all, get_or-drop, drop-length, take-length, get_or-take, take-take, length-take-le}
 use Rattle.std.specs.Int.{w32, w64, from_be_bytes, bytes_high_first}
 use Rattle.octets.specs.Octets.{number, bytes, xors}
 use Rattle.octets.proofs.Bits.{or-zero, xor-zero}
@@ -93,6 +93,17 @@ pub written-high : (n x : ℕ) (b l o : List ℕ) → b ≡ bytes_high_first n x
 written-high n x b l o e q =
     let f : b ≡ bytes n x = e ∙ bytes-high n x in
     q ∙ ap (λ (t : List ℕ). t ++ drop (length t) l) f ∙ ap (λ (k : ℕ). bytes n x ++ drop k l) (bytes-length n x)
+
+-- copying: one byte more
+pub copy-next : (o s l : List ℕ) (i : ℕ) → i < length s → i < length l → o ≡ take i s ++ drop i l → set o i (get_or s i 0) ≡ take (i + 1) s ++ drop (i + 1) l
+copy-next o s l i h k q =
+    ap (λ (t : List ℕ). set t i (get_or s i 0)) q
+    ∙ fill-next (take i s) l i (get_or s i 0) (length-take-le i s (omega arith)) k ∙ ap (λ (t : List ℕ). t ++ drop (i + 1) l) (sym (take-suc s i 0 h) ∙ ap (λ (n : ℕ). take n s) (sym (add-one i)))
+
+pub copied : (o s l : List ℕ) (i : ℕ) → i ≤ length s → length s ≤ i → o ≡ take i s ++ drop i l → o ≡ s ++ drop (length s) l
+copied o s l i h k q =
+    let e : i ≡ length s = omega arith in
+    q ∙ ap (λ (n : ℕ). take n s ++ drop n l) e ∙ ap (λ (t : List ℕ). t ++ drop (length s) l) (take-length s)
 
 -- XOR: one byte more
 xors-snoc : (x y : List ℕ) (v : ℕ) → xors (x ++ (v ∷ [])) y ≡ xors x y ++ (bit_xor v (get_or y (length x) 0) ∷ [])

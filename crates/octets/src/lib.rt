@@ -84,12 +84,15 @@ pub fn write_be64(out: &mut [u8], x: u64)
     copy(out, &x.to_be_bytes());
 }
 
-// Copies src to the front of out.
+// Copies src to the front of out. A loop, since the library's `copy_from_slice` asks as it runs whether the two overlap, and
+// takes `memmove` from outside where this takes `memcpy`.
 pub fn copy(out: &mut [u8], src: &[u8])
     requires { length src.now ≤ length out.old }
     ensures { out.new ≡ src.now ++ drop (length src.now) out.old }
 {
-    out[..src.len()].copy_from_slice(src);
+    for i in 0..src.len() {
+        out[i] = src[i];
+    }
 }
 
 // Sets every byte of out to zero.
