@@ -104,7 +104,10 @@ pub fn open(
     let Some(i) = store::find_near(store, head.kid, place) else {
         return Err(Refusal::KidMissing);
     };
-    let m = open_with(store::row_at(store, i), head, metadata, frame, room)?;
+    let opened = open_with(store::row_at(store, i), head, metadata, frame, room);
+    let Ok(m) = opened else {
+        return opened;
+    };
     store::note_at(store, i, head.ctr);
     Ok(m)
 }
