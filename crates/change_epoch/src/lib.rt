@@ -44,7 +44,8 @@ fn gather(store: &mut [u8], e: u64, bits: u64) -> usize
     for i in 0..store.len() / RECORD_SIZE {
         let from = i * RECORD_SIZE;
         let end = from + RECORD_SIZE;
-        if !of_epoch(&store[from..end], e, bits) {
+        let kept = !of_epoch(&store[from..end], e, bits);
+        if kept {
             copy_down(store, to, from);
             to += RECORD_SIZE;
         }

@@ -9,7 +9,7 @@ use Rattle.change_epoch.proofs.Bytes.{gathered_none, same_length, room, gathered
 use mathlib.Core.Bool.{not}
 use mathlib.Core.Path.{ap}
 use Rattle.change_epoch.proofs.gather.Goals as goal
-use Rattle.change_epoch.proofs.gather.Goals.{then-not-of_epoch, else-not-of_epoch}
+use Rattle.change_epoch.proofs.gather.Goals.{then-kept, else-kept}
 
 pub loop-i-init : goal.loop-i-init
 loop-i-init c = gathered_none _ _ _
@@ -29,11 +29,11 @@ copy_down-requires c =
 pub loop-i-preserved : goal.loop-i-preserved
 loop-i-preserved c =
     let octets : Octets c.args.store.now = λ j. omega (arith, c.slice_known-1.given j) in
-    elim c.if-not-of_epoch.branch [
-      | then-not-of_epoch w ↦ gathered-on _ _ c.args.store.now (octets) c.requires.0 c.loop-i.store c.loop-i.to c.loop-i.i c.loop-i.invariant c.loop-i-test.true _
-          c.of_epoch.ensures _ _ (ap not w.if-not-of_epoch.true) (w.store-is ∙ w.copy_down.ensures) w.to-is
-      | else-not-of_epoch w ↦ gathered-past _ _ c.args.store.now (octets) c.requires.0 c.loop-i.store c.loop-i.to c.loop-i.i c.loop-i.invariant c.loop-i-test.true _
-          c.of_epoch.ensures _ _ (ap not w.if-not-of_epoch.false) w.store-is w.to-is
+    elim c.if-kept.branch [
+      | then-kept w ↦ gathered-on _ _ c.args.store.now (octets) c.requires.0 c.loop-i.store c.loop-i.to c.loop-i.i c.loop-i.invariant c.loop-i-test.true _
+          c.of_epoch-kept.ensures _ _ (ap not w.if-kept.true) (w.store-is ∙ w.copy_down.ensures) w.to-is
+      | else-kept w ↦ gathered-past _ _ c.args.store.now (octets) c.requires.0 c.loop-i.store c.loop-i.to c.loop-i.i c.loop-i.invariant c.loop-i-test.true _
+          c.of_epoch-kept.ensures _ _ (ap not w.if-kept.false) w.store-is w.to-is
     ]
 
 pub shape_of-store : goal.shape_of-store
