@@ -5,7 +5,6 @@
 #![tactic(auto)]
 
 use header::{Ctr, Kid};
-use std::alloc::{AllocError, Global};
 use std::io::{self, Read};
 use vector_text::Tally;
 
@@ -19,12 +18,12 @@ const ROOM: usize = 32;
 const PATTERN: u8 = 0xa5;
 
 // A KID, a CTR and a header as they are spelt, and the frame of that header and zeros.
-#[derive(Drop)]
-struct Case {
+#[derive(Clone, Copy)]
+struct Case<'a> {
     kid: Kid,
     ctr: Ctr,
-    header: Vec<u8>,
-    frame: Vec<u8>,
+    header: &'a [u8],
+    frame: &'a [u8],
 }
 
 // The groups that are counted.
@@ -50,25 +49,19 @@ fn columns(line: &[u8]) -> &[u8] {
     line.get(2..).unwrap_or(b"")
 }
 
-// The case that a line spells, or None where it ends before the header's column.
-fn case_of(alloc: Global, line: &[u8]) -> Result<Option<Case>, AllocError> {
+// The case that a line spells, with its header in a room of zeros, or None where it ends before the header's column.
+fn case_of<'a>(line: &[u8], room: &'a mut [u8]) -> Option<Case<'a>> {
     let (kid, rest) = vector_text::number(columns(line));
-    let Some((_, rest)) = rest.split_first() else {
-        return Ok(None);
-    };
+    let (_, rest) = rest.split_first()?;
     let (ctr, rest) = vector_text::number(rest);
-    let Some((_, rest)) = rest.split_first() else {
-        return Ok(None);
-    };
-    let header = vector_text::bytes(alloc, rest, ROOM)?;
-    let mut frame = header.clone()?;
-    frame.resize(ROOM, 0)?;
-    Ok(Some(Case {
+    let (_, rest) = rest.split_first()?;
+    let length = vector_text::bytes(rest, room).len();
+    Some(Case {
         kid: Kid(kid),
         ctr: Ctr(ctr),
-        header,
-        frame,
-    }))
+        header: &room[..length],
+        frame: room,
+    })
 }
 
 // Whether every byte is the pattern.
@@ -85,8 +78,7 @@ fn writes(case: &Case) -> bool {
     if n != case.header.len() {
         return false;
     }
-    room.strip_prefix(case.header.as_slice())
-        .is_some_and(untouched)
+    room.strip_prefix(case.header).is_some_and(untouched)
 }
 
 // Whether a room of patterns one byte shorter than the case's header is refused and left alone.
@@ -111,7 +103,7 @@ fn reads(bytes: &[u8], case: &Case) -> bool {
 
 // Whether the case is read from its header alone, and from its frame.
 fn reads_back(case: &Case) -> bool {
-    reads(&case.header, case) && reads(&case.frame, case)
+    reads(case.header, case) && reads(case.frame, case)
 }
 
 // Whether the case's header is read, and written in fewer bytes.
@@ -134,35 +126,50 @@ fn shows(frame: &[u8], kid: Kid, ctr: Ctr, header: &[u8]) -> bool {
         && frame::rest_of(frame) == rest
 }
 
+// Whether a case of a group comes out right.
+fn is_right(group: Group, case: &Case) -> bool {
+    match group {
+        Group::Longer => longer(case),
+        _ => writes(case) && needs(case) && reads_back(case),
+    }
+}
+
+// Whether the bytes that a line spells are refused, and shown as a frame without a header.
+fn refused(line: &[u8]) -> (bool, bool) {
+    let mut room = [0u8; ROOM];
+    let bytes = vector_text::bytes(columns(line), &mut room);
+    (
+        header::read_header(bytes).is_none(),
+        shows(bytes, Kid(0), Ctr(0), b""),
+    )
+}
+
+// Whether the case of a line comes out right, and whether its frame does.
+fn tried(group: Group, line: &[u8]) -> (bool, bool) {
+    let mut room = [0u8; ROOM];
+    let Some(case) = case_of(line, &mut room) else {
+        return (false, false);
+    };
+    (
+        is_right(group, &case),
+        shows(case.frame, case.kid, case.ctr, case.header),
+    )
+}
+
 // The group of a line, whether its case comes out right, and whether its frame does; None for a comment.
-fn judge(alloc: Global, line: &[u8]) -> Result<Option<(Group, bool, bool)>, AllocError> {
-    let group = match line.first() {
-        Some(b'v') => Group::Vectors,
-        Some(b'e') => Group::Edges,
-        Some(b'l') => Group::Longer,
-        Some(b'r') => Group::Refused,
-        _ => return Ok(None),
+fn judge(line: &[u8]) -> Option<(Group, bool, bool)> {
+    let group = match line.first()? {
+        b'v' => Group::Vectors,
+        b'e' => Group::Edges,
+        b'l' => Group::Longer,
+        b'r' => Group::Refused,
+        _ => return None,
     };
     let (right, shown) = match group {
-        Group::Refused => {
-            let bytes = vector_text::bytes(alloc, columns(line), ROOM)?;
-            (
-                header::read_header(&bytes).is_none(),
-                shows(&bytes, Kid(0), Ctr(0), b""),
-            )
-        }
-        _ => match case_of(alloc, line)? {
-            Some(case) => (
-                match group {
-                    Group::Longer => longer(&case),
-                    _ => writes(&case) && needs(&case) && reads_back(&case),
-                },
-                shows(&case.frame, case.kid, case.ctr, &case.header),
-            ),
-            None => (false, false),
-        },
+        Group::Refused => refused(line),
+        _ => tried(group, line),
     };
-    Ok(Some((group, right, shown)))
+    Some((group, right, shown))
 }
 
 impl Counts {
@@ -199,7 +206,7 @@ fn main(rt: HostRuntime) -> io::Result<()> {
     rt.reader().take(MOST).read_to_end(&mut input)?;
     let mut counts = Counts::new();
     for line in input.split(|b| *b == b'\n') {
-        if let Some((group, right, shown)) = judge(rt.alloc(), line)? {
+        if let Some((group, right, shown)) = judge(line) {
             counts.count(group, right, shown);
         }
     }

@@ -9,7 +9,6 @@ use header::{Ctr, Kid};
 use sframe_test::cipher_suites::{
     sframe_test_derive, sframe_test_suite_decrypt, sframe_test_suite_encrypt,
 };
-use std::alloc::{AllocError, Global};
 use std::io::{self, Read};
 use suites::sizes::Aes128CtrHmacSha256Tag80;
 use vector_text::Tally;
@@ -24,11 +23,11 @@ const NN: usize = Aes128CtrHmacSha256Tag80::NN;
 const ROOM: usize = 80;
 
 // What an encryption takes beside its metadata and plaintext.
-#[derive(Drop)]
-struct Sealing {
+#[derive(Clone, Copy)]
+struct Sealing<'a> {
     suite: u64,
-    key: Vec<u8>,
-    nonce: Vec<u8>,
+    key: &'a [u8],
+    nonce: &'a [u8],
 }
 
 #[derive(Clone, Copy)]
@@ -52,11 +51,16 @@ fn number(line: &[u8], n: usize) -> u64 {
 }
 
 // The bytes in a column of a line, as far as there is room for them.
-fn bytes(alloc: Global, line: &[u8], n: usize) -> Result<Vec<u8>, AllocError> {
-    vector_text::bytes(alloc, column(line, n), ROOM)
+fn bytes<'a>(line: &[u8], n: usize, room: &'a mut [u8]) -> &'a [u8] {
+    vector_text::bytes(column(line, n), room)
 }
 
-impl Sealing {
+// Room for the longest input or result.
+fn empty() -> [u8; ROOM] {
+    [0u8; ROOM]
+}
+
+impl Sealing<'_> {
     // Whether encryption gives the bytes wanted.
     fn encrypts(&self, header: &[u8], metadata: &[u8], plaintext: &[u8], want: &[u8]) -> bool {
         let mut room = [0u8; ROOM];
@@ -64,13 +68,7 @@ impl Sealing {
             return false;
         };
         sframe_test_suite_encrypt(
-            self.suite,
-            &self.key,
-            &self.nonce,
-            header,
-            metadata,
-            plaintext,
-            out,
+            self.suite, self.key, self.nonce, header, metadata, plaintext, out,
         )
         .is_ok()
             && room.starts_with(want)
@@ -83,13 +81,7 @@ impl Sealing {
             return false;
         };
         sframe_test_suite_decrypt(
-            self.suite,
-            &self.key,
-            &self.nonce,
-            header,
-            metadata,
-            sealed,
-            out,
+            self.suite, self.key, self.nonce, header, metadata, sealed, out,
         )
         .is_ok()
             && room.starts_with(want)
@@ -103,16 +95,20 @@ impl Sealing {
 }
 
 // Whether the AEAD case of a line comes out right, both ways.
-fn aead(alloc: Global, line: &[u8]) -> Result<bool, AllocError> {
+fn aead(line: &[u8]) -> bool {
+    let (mut key, mut nonce) = (empty(), empty());
+    let (mut aad, mut plaintext, mut sealed) = (empty(), empty(), empty());
     let sealing = Sealing {
         suite: number(line, 1),
-        key: bytes(alloc, line, 2)?,
-        nonce: bytes(alloc, line, 3)?,
+        key: bytes(line, 2, &mut key),
+        nonce: bytes(line, 3, &mut nonce),
     };
-    let aad = bytes(alloc, line, 4)?;
-    let plaintext = bytes(alloc, line, 5)?;
-    let sealed = bytes(alloc, line, 6)?;
-    Ok(sealing.agrees(b"", &aad, &plaintext, &sealed))
+    sealing.agrees(
+        b"",
+        bytes(line, 4, &mut aad),
+        bytes(line, 5, &mut plaintext),
+        bytes(line, 6, &mut sealed),
+    )
 }
 
 // Whether key and salt are derived as wanted.
@@ -128,18 +124,25 @@ fn derives(suite: u64, base: &[u8], kid: u64, key: &[u8], salt: &[u8]) -> bool {
 }
 
 // Whether key and salt of a line come out right.
-fn derivation(alloc: Global, line: &[u8]) -> Result<bool, AllocError> {
-    let base = bytes(alloc, line, 4)?;
-    let key = bytes(alloc, line, 5)?;
-    let salt = bytes(alloc, line, 6)?;
-    Ok(derives(number(line, 1), &base, number(line, 2), &key, &salt))
+fn derivation(line: &[u8]) -> bool {
+    let (mut base, mut key, mut salt) = (empty(), empty(), empty());
+    derives(
+        number(line, 1),
+        bytes(line, 4, &mut base),
+        number(line, 2),
+        bytes(line, 5, &mut key),
+        bytes(line, 6, &mut salt),
+    )
 }
 
 // Whether the nonce of a line comes out right.
-fn nonce(alloc: Global, line: &[u8]) -> Result<bool, AllocError> {
-    let salt = bytes(alloc, line, 6)?;
-    let want = bytes(alloc, line, 7)?;
-    Ok(gives(&salt, Ctr(number(line, 3)), &want))
+fn nonce(line: &[u8]) -> bool {
+    let (mut salt, mut want) = (empty(), empty());
+    gives(
+        bytes(line, 6, &mut salt),
+        Ctr(number(line, 3)),
+        bytes(line, 7, &mut want),
+    )
 }
 
 // Whether the nonce of a counter under a salt is the one wanted.
@@ -170,23 +173,22 @@ fn seals(
 }
 
 // Whether the frame of a line comes out right.
-fn frame(alloc: Global, line: &[u8]) -> Result<bool, AllocError> {
+fn frame(line: &[u8]) -> bool {
+    let (mut key, mut nonce) = (empty(), empty());
+    let (mut metadata, mut plaintext, mut frame) = (empty(), empty(), empty());
     let sealing = Sealing {
         suite: number(line, 1),
-        key: bytes(alloc, line, 5)?,
-        nonce: bytes(alloc, line, 7)?,
+        key: bytes(line, 5, &mut key),
+        nonce: bytes(line, 7, &mut nonce),
     };
-    let metadata = bytes(alloc, line, 8)?;
-    let plaintext = bytes(alloc, line, 9)?;
-    let frame = bytes(alloc, line, 10)?;
-    Ok(seals(
+    seals(
         &sealing,
         Kid(number(line, 2)),
         Ctr(number(line, 3)),
-        &metadata,
-        &plaintext,
-        &frame,
-    ))
+        bytes(line, 8, &mut metadata),
+        bytes(line, 9, &mut plaintext),
+        bytes(line, 10, &mut frame),
+    )
 }
 
 impl Counts {
@@ -202,18 +204,17 @@ impl Counts {
     }
 
     // Judges a line: an AEAD case, a case of GCM's own, an SFrame case with its three steps, or a comment.
-    fn judge(&mut self, alloc: Global, line: &[u8]) -> Result<(), AllocError> {
+    fn judge(&mut self, line: &[u8]) {
         match line.first() {
-            Some(b'a') => self.aeads = self.aeads.plus(aead(alloc, line)?),
-            Some(b'g') => self.gcms = self.gcms.plus(aead(alloc, line)?),
+            Some(b'a') => self.aeads = self.aeads.plus(aead(line)),
+            Some(b'g') => self.gcms = self.gcms.plus(aead(line)),
             Some(b's') => {
-                self.keys = self.keys.plus(derivation(alloc, line)?);
-                self.nonces = self.nonces.plus(nonce(alloc, line)?);
-                self.frames = self.frames.plus(frame(alloc, line)?);
+                self.keys = self.keys.plus(derivation(line));
+                self.nonces = self.nonces.plus(nonce(line));
+                self.frames = self.frames.plus(frame(line));
             }
             _ => {}
         }
-        Ok(())
     }
 }
 
@@ -226,7 +227,7 @@ fn main(rt: HostRuntime) -> io::Result<()> {
     rt.reader().take(MOST).read_to_end(&mut input)?;
     let mut counts = Counts::new();
     for line in input.split(|b| *b == b'\n') {
-        counts.judge(rt.alloc(), line)?;
+        counts.judge(line);
     }
     print(&rt, "D.2, encryption and decryption", counts.aeads)?;
     print(&rt, "GCM test cases, suites 4 and 5", counts.gcms)?;

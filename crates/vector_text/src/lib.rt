@@ -2,10 +2,9 @@
 // What the programs of vectors share: a count of cases, and text in hexadecimal.
 #![tactic(auto)]
 
-ghost use Rattle.std.specs.Prelude.{◌≡◌, Some, None, IfOk, MatchOption, drop};
+ghost use Rattle.std.specs.Prelude.{◌≡◌, ◌≤◌, Some, None, MatchOption, length, drop};
 ghost use Rattle.vector_text.specs.Text.{one_more, digit, number, after_number, byte, spelt};
 
-use std::alloc::{AllocError, Global};
 use std::num::wrapping_add_u64;
 
 // How many cases came out right, and how many wrong.
@@ -79,18 +78,20 @@ fn byte(text: &[u8]) -> Option<(u8, &[u8])>
     Some((digit(*a)? * 16 + digit(*b)?, rest))
 }
 
-// The bytes that a text begins with, two digits each, as far as they go but no more than so many.
-pub fn bytes(alloc: Global, text: &[u8], most: usize) -> Result<Vec<u8>, AllocError>
-    ensures { IfOk result (λ bytes. bytes.items ≡ spelt most text.now) }
+// The bytes that a text begins with, two digits each, as far as they go and the room for them: they are at the room's front.
+pub fn bytes<'a>(text: &[u8], room: &'a mut [u8]) -> &'a [u8]
+    ensures spelt { result.now ≡ spelt (length room.old) text.now }
+    ensures fits { length result.now ≤ length room.old }
 {
-    let mut bytes = Vec::new(alloc);
+    let mut filled = 0;
     let mut rest = text;
-    for _ in 0..most {
+    for place in room.iter_mut() {
         let Some((b, after)) = byte(rest) else {
             break;
         };
-        bytes.push(b)?;
+        *place = b;
         rest = after;
+        filled += 1;
     }
-    Ok(bytes)
+    &room[..filled]
 }
