@@ -1,5 +1,6 @@
 -- SPDX-License-Identifier: MIT
 use Rattle.std.proofs.Common.{arith, take, length-take-le}
+use Rattle.std.proofs.lemmas.Bool.Decides.{nat_tests}
 use Rattle.pair_log.proofs.Gathering.{insert_old, insert_new}
 use Rattle.pair_log.proofs.insert.Goals as goal
 
@@ -7,7 +8,7 @@ pub returns-in_default : goal.returns-in_default
 returns-in_default c =
     let a = c.args in
     let e = c.in_default.ensures in
-    (insert_old (take a.n a.found.now) a.pair c.in_default.field-0 c.requires.rising e.bound e.ok, omega arith)
+    (insert_old (take a.n a.found.now) a.pair c.in_default.field-0 c.requires.rising e.bound (λ d. let s = e.ok d in grind (arith, nat_tests, s)), omega arith)
 
 pub returns : goal.returns
 returns c =
