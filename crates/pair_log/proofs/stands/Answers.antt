@@ -8,6 +8,7 @@ use Rattle.pair_log.proofs.stands.Goals as goal
 pub loop-i-init : goal.loop-i-init
 loop-i-init c = let a = c.args in search-starts (value a.pair) a.log.now a.n
 
+-- Two pairs are equal whichever number is compared first, so grind takes either order, here and in the next answer.
 pub returns-then-eq : goal.returns-then-eq
 returns-then-eq c =
     let a = c.args in
